@@ -1,0 +1,4 @@
+pub mod Numbers
+pub mod Tags
+pub mod Limits
+pub mod formers
