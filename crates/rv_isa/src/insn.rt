@@ -1,0 +1,80 @@
+/// An instruction of RV64I with M. A register is a number below 32. An immediate is sign-extended to 64 bits, as the machine adds it;
+/// that of LUI and AUIPC has its low 12 bits 0, and that of a shift is the shift's amount.
+#[derive(Clone, Copy, PartialEq, Eq, Debug)]
+pub enum Insn {
+    // upper immediates
+    Lui { rd: u8, imm: u64 },
+    Auipc { rd: u8, imm: u64 },
+    // jumps
+    Jal { rd: u8, imm: u64 },
+    Jalr { rd: u8, rs1: u8, imm: u64 },
+    // conditional branches
+    Beq { rs1: u8, rs2: u8, imm: u64 },
+    Bne { rs1: u8, rs2: u8, imm: u64 },
+    Blt { rs1: u8, rs2: u8, imm: u64 },
+    Bge { rs1: u8, rs2: u8, imm: u64 },
+    Bltu { rs1: u8, rs2: u8, imm: u64 },
+    Bgeu { rs1: u8, rs2: u8, imm: u64 },
+    // loads
+    Lb { rd: u8, rs1: u8, imm: u64 },
+    Lh { rd: u8, rs1: u8, imm: u64 },
+    Lw { rd: u8, rs1: u8, imm: u64 },
+    Ld { rd: u8, rs1: u8, imm: u64 },
+    Lbu { rd: u8, rs1: u8, imm: u64 },
+    Lhu { rd: u8, rs1: u8, imm: u64 },
+    Lwu { rd: u8, rs1: u8, imm: u64 },
+    // stores
+    Sb { rs1: u8, rs2: u8, imm: u64 },
+    Sh { rs1: u8, rs2: u8, imm: u64 },
+    Sw { rs1: u8, rs2: u8, imm: u64 },
+    Sd { rs1: u8, rs2: u8, imm: u64 },
+    // a register and an immediate
+    Addi { rd: u8, rs1: u8, imm: u64 },
+    Slti { rd: u8, rs1: u8, imm: u64 },
+    Sltiu { rd: u8, rs1: u8, imm: u64 },
+    Xori { rd: u8, rs1: u8, imm: u64 },
+    Ori { rd: u8, rs1: u8, imm: u64 },
+    Andi { rd: u8, rs1: u8, imm: u64 },
+    Slli { rd: u8, rs1: u8, imm: u64 },
+    Srli { rd: u8, rs1: u8, imm: u64 },
+    Srai { rd: u8, rs1: u8, imm: u64 },
+    // the same on words of 32 bits
+    Addiw { rd: u8, rs1: u8, imm: u64 },
+    Slliw { rd: u8, rs1: u8, imm: u64 },
+    Srliw { rd: u8, rs1: u8, imm: u64 },
+    Sraiw { rd: u8, rs1: u8, imm: u64 },
+    // two registers
+    Add { rd: u8, rs1: u8, rs2: u8 },
+    Sub { rd: u8, rs1: u8, rs2: u8 },
+    Sll { rd: u8, rs1: u8, rs2: u8 },
+    Slt { rd: u8, rs1: u8, rs2: u8 },
+    Sltu { rd: u8, rs1: u8, rs2: u8 },
+    Xor { rd: u8, rs1: u8, rs2: u8 },
+    Srl { rd: u8, rs1: u8, rs2: u8 },
+    Sra { rd: u8, rs1: u8, rs2: u8 },
+    Or { rd: u8, rs1: u8, rs2: u8 },
+    And { rd: u8, rs1: u8, rs2: u8 },
+    Mul { rd: u8, rs1: u8, rs2: u8 },
+    Mulh { rd: u8, rs1: u8, rs2: u8 },
+    Mulhsu { rd: u8, rs1: u8, rs2: u8 },
+    Mulhu { rd: u8, rs1: u8, rs2: u8 },
+    Div { rd: u8, rs1: u8, rs2: u8 },
+    Divu { rd: u8, rs1: u8, rs2: u8 },
+    Rem { rd: u8, rs1: u8, rs2: u8 },
+    Remu { rd: u8, rs1: u8, rs2: u8 },
+    // the same on words of 32 bits
+    Addw { rd: u8, rs1: u8, rs2: u8 },
+    Subw { rd: u8, rs1: u8, rs2: u8 },
+    Sllw { rd: u8, rs1: u8, rs2: u8 },
+    Srlw { rd: u8, rs1: u8, rs2: u8 },
+    Sraw { rd: u8, rs1: u8, rs2: u8 },
+    Mulw { rd: u8, rs1: u8, rs2: u8 },
+    Divw { rd: u8, rs1: u8, rs2: u8 },
+    Divuw { rd: u8, rs1: u8, rs2: u8 },
+    Remw { rd: u8, rs1: u8, rs2: u8 },
+    Remuw { rd: u8, rs1: u8, rs2: u8 },
+    // whole words
+    Fence,
+    Ecall,
+    Ebreak,
+}
