@@ -14,5 +14,9 @@ pub fn tag_text(tag: Tag) -> [u8; 3]
     ensures { result ≡ tag_bytes tag.0 }
 {
     let letter = GROUP_LETTERS[tag.0 as usize / 100 - 1];
-    [letter, b'0' + (tag.0 % 100 / 10) as u8, b'0' + (tag.0 % 10) as u8]
+    [
+        letter,
+        b'0' + (tag.0 % 100 / 10) as u8,
+        b'0' + (tag.0 % 10) as u8,
+    ]
 }
