@@ -2,3 +2,4 @@ pub mod Characters
 pub mod Lines
 pub mod Texts
 pub mod Words
+pub mod Pieces

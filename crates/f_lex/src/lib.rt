@@ -4,6 +4,7 @@
 mod class;
 mod fault;
 mod lines;
+mod piece;
 mod text;
 mod token;
 mod words;
