@@ -3,3 +3,4 @@ pub mod Lines
 pub mod Texts
 pub mod Words
 pub mod Pieces
+pub mod Rules

@@ -5,6 +5,7 @@ mod class;
 mod fault;
 mod lines;
 mod piece;
+mod reader;
 mod text;
 mod token;
 mod words;
