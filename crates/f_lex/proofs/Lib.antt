@@ -1,3 +1,5 @@
 pub mod Scan
 pub mod Lengths
 pub mod Numbers
+pub mod Shorter
+pub mod Whole

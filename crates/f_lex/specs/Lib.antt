@@ -4,3 +4,4 @@ pub mod Texts
 pub mod Words
 pub mod Pieces
 pub mod Rules
+pub mod Source

@@ -62,9 +62,13 @@ dotted_of cs s = choose (byte_at dot s.1) (piece.Ill rule.NoToken, cs) (λ r. ch
 unfoldable pub dot_at : List ℕ → Piece × List ℕ
 dot_at cs = choose (byte_at dot cs) (dotted_of cs (run_at run.Letters cs)) (λ r. (whole (token.Mark mark.DotDot), r))
 
+abbrev pub joined_or_lost : List ℕ → Option (List ℕ) → Piece × List ℕ
+joined_or_lost cs None = (piece.Lost, cs)
+joined_or_lost cs (Some r) = (piece.Joined, r)
+
 -- what an `&` begins, with what stands behind it
 unfoldable pub ampersand_at : List ℕ → Piece × List ℕ
-ampersand_at cs = if ends_line Outside cs then choose (goes_on_at Outside cs) (piece.Lost, cs) (λ r. (piece.Joined, r)) else (piece.Ill rule.NoToken, cs)
+ampersand_at cs = if ends_line Outside cs then joined_or_lost cs (goes_on_at Outside cs) else (piece.Ill rule.NoToken, cs)
 
 abbrev pub marked : List ℕ → Piece × List ℕ
 marked [] = (piece.LineEnd, [])

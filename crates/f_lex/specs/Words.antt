@@ -45,14 +45,24 @@ number_of ds = number_from 0 ds
 unfoldable pub one_or_two : Mark → ℕ → Mark → List ℕ → Mark × List ℕ
 one_or_two one second two cs = choose (byte_at second cs) (one, cs) (λ r. (two, r))
 
--- ( ) [ ] , % + - : :: * ** < <= > >= / // /= and = => ==, the longest that fits (6.2.1)
+-- ( ) [ ] , % + -
+abbrev pub single_mark : ℕ → Option Mark
+single_mark c = if c == 40 then Some mark.Open else if c == 41 then Some mark.Close else if c == 91 then Some mark.OpenBracket else if c == 93 then Some mark.CloseBracket
+    else if c == 44 then Some mark.Comma else if c == 37 then Some mark.Percent else if c == 43 then Some mark.Plus else if c == 45 then Some mark.Minus else None
+
+-- : and ::, * and **, < and <=, > and >=: the mark of one character, the second character, and the mark of both
+abbrev pub double_mark : ℕ → Option (Mark × ℕ × Mark)
+double_mark c = if c == 58 then Some (mark.Colon, 58, mark.DoubleColon) else if c == 42 then Some (mark.Star, 42, mark.Power)
+    else if c == 60 then Some (mark.Less, 61, mark.LessEqual) else if c == 62 then Some (mark.Greater, 61, mark.GreaterEqual) else None
+
+-- / // /= and = => ==
+abbrev pub other_mark : Bool → List ℕ → Mark × List ℕ
+other_mark true cs = choose (byte_at 47 cs) (one_or_two mark.Slash 61 mark.NotEqual cs) (λ r. (mark.Concat, r))
+other_mark false cs = choose (byte_at 62 cs) (one_or_two mark.Assign 61 mark.Equal cs) (λ r. (mark.Arrow, r))
+
+-- the longest mark that the character begins (6.2.1), and the rest
 unfoldable pub mark_at : ℕ → List ℕ → Mark × List ℕ
-mark_at c cs = if c == 40 then (mark.Open, cs) else if c == 41 then (mark.Close, cs) else if c == 91 then (mark.OpenBracket, cs) else if c == 93 then (mark.CloseBracket, cs)
-    else if c == 44 then (mark.Comma, cs) else if c == 37 then (mark.Percent, cs) else if c == 43 then (mark.Plus, cs) else if c == 45 then (mark.Minus, cs)
-    else if c == 58 then one_or_two mark.Colon 58 mark.DoubleColon cs else if c == 42 then one_or_two mark.Star 42 mark.Power cs
-    else if c == 60 then one_or_two mark.Less 61 mark.LessEqual cs else if c == 62 then one_or_two mark.Greater 61 mark.GreaterEqual cs
-    else if c == 47 then choose (byte_at 47 cs) (one_or_two mark.Slash 61 mark.NotEqual cs) (λ r. (mark.Concat, r))
-    else choose (byte_at 62 cs) (one_or_two mark.Assign 61 mark.Equal cs) (λ r. (mark.Arrow, r))
+mark_at c cs = choose (single_mark c) (choose (double_mark c) (other_mark (c == 47) cs) (λ m. one_or_two m.0 m.1 m.2 cs)) (λ m. (m, cs))
 
 -- relational operators in letters (10.1.5.5.1)
 unfoldable pub relation_word : List ℕ → Option Mark
