@@ -139,3 +139,11 @@ begins file before bytes fault e = record {
   first = ap (λ f. least f (breaks_from (start before) (cuts (length bytes) bytes))) e ∙ sym (least-append None (long_lines 1 0 bytes) (breaks_from (start before) (cuts (length bytes) bytes)));
   so_far = λ none. refl;
 }
+
+pub next-shorter : (p : Piece) (rest next : List ℕ) → 1 ≤ length rest → let y : Piece × List ℕ = (p, next) in y ≡ piece_at rest → length next + 1 ≤ length rest
+next-shorter p [] next some e = absurd (omega (arith, some))
+next-shorter p (c ∷ cs) next some e = let h : length next ≤ length cs = subst (λ (y : Piece × List ℕ). length y.1 ≤ length cs) (sym e) (piece-length c cs) in omega (arith, h)
+
+pub none-left : (cs : List ℕ) → length cs ≡ 0 → cs ≡ []
+none-left [] e = refl
+none-left (c ∷ cs) e = absurd (omega (arith, e))

@@ -115,9 +115,11 @@ pub fn lex(
             },
         ));
     }
-    let Reader { tokens, fault, .. } = read(alloc, file, before, bytes)?;
-    match fault {
-        Some(fault) => Err(refusal(file, fault)),
-        None => Ok(tokens.into_vec()),
+    match read(alloc, file, before, bytes) {
+        Err(_) => Err(Refusal::Memory),
+        Ok(Reader { tokens, fault, .. }) => match fault {
+            Some(fault) => Err(refusal(file, fault)),
+            None => Ok(tokens.into_vec()),
+        },
     }
 }
