@@ -16,3 +16,6 @@ mod words;
 
 pub use lexer::lex;
 pub use token::{Kind, Mark, Spanned, Token};
+
+#[cfg(test)]
+mod tests;

@@ -76,14 +76,14 @@ pub enum Mark {
 }
 
 /// The kind parameter of a literal constant: digits, or the name of a constant with its letters lowered (ISO/IEC 1539-1:2018, 7.4.3.1).
-#[derive(Drop, Debug)]
+#[derive(Clone, PartialEq, Eq, Drop, Debug)]
 pub enum Kind {
     Number(List<u8>),
     Name(List<u8>),
 }
 
 /// A lexical token of the profile, with its bytes; letters are lowered outside texts (ISO/IEC 1539-1:2018, 6.2).
-#[derive(Drop, Debug)]
+#[derive(Clone, PartialEq, Eq, Drop, Debug)]
 pub enum Token {
     /// A name, of at most 63 characters, or a keyword: keywords aren't reserved.
     Name(List<u8>),
@@ -109,7 +109,7 @@ pub enum Token {
 }
 
 /// A token, the offsets in its file of its first byte and of the byte behind its last, and its place.
-#[derive(Drop, Debug)]
+#[derive(Clone, PartialEq, Eq, Drop, Debug)]
 pub struct Spanned {
     pub token: Token,
     pub start: u32,
