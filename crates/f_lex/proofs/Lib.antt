@@ -3,3 +3,4 @@ pub mod Lengths
 pub mod Numbers
 pub mod Shorter
 pub mod Whole
+pub mod Small

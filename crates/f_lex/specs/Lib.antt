@@ -5,3 +5,4 @@ pub mod Words
 pub mod Pieces
 pub mod Rules
 pub mod Source
+pub mod Grammar
