@@ -4,3 +4,4 @@ pub mod Numbers
 pub mod Shorter
 pub mod Whole
 pub mod Small
+pub mod TextLaws

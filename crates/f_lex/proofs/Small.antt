@@ -15,6 +15,7 @@ use Rattle.f_lex.specs.Grammar.{AreRun, AreBetween, with_lead, HasLead, Continue
 abbrev pub Means : Class → ℕ → Type 0
 Means Ampersand c = c ≡ 38
 Means Dot c = c ≡ 46
+Means Nothing c = ⊥
 Means _ c = Unit {0}
 
 either : (c : ℕ) (b : Bool) (x y : Class) → (b ≡ true → Means x c) → (b ≡ false → Means y c) → Means (cond b x y) c
