@@ -5,3 +5,5 @@ pub mod Shorter
 pub mod Whole
 pub mod Small
 pub mod TextLaws
+pub mod PieceLaws
+pub mod Order

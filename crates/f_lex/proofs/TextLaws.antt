@@ -84,7 +84,7 @@ part_sound quote (c ∷ cs) = pick (eqb c quote) refl
 
 -- ---- all parts
 
-body_is : (a b : List ℕ) (n m : ℕ) (o : Option Rule) (r : List ℕ) → a ≡ b → n ≡ m → let x : Body × List ℕ = (record { bytes = a; passed = n; broken = o }, r) in let y : Body × List ℕ = (record { bytes = b; passed = m; broken = o }, r) in x ≡ y
+pub body_is : (a b : List ℕ) (n m : ℕ) (o : Option Rule) (r : List ℕ) → a ≡ b → n ≡ m → let x : Body × List ℕ = (record { bytes = a; passed = n; broken = o }, r) in let y : Body × List ℕ = (record { bytes = b; passed = m; broken = o }, r) in x ≡ y
 body_is a b n m o r e f = ap (λ (l : List ℕ). let x : Body × List ℕ = (record { bytes = l; passed = n; broken = o }, r) in x) e ∙ ap (λ (k : ℕ). let x : Body × List ℕ = (record { bytes = b; passed = k; broken = o }, r) in x) f
 
 -- the body that parts make behind what was read before
