@@ -7,3 +7,4 @@ pub mod Small
 pub mod TextLaws
 pub mod PieceLaws
 pub mod Order
+pub mod WholeLaws

@@ -1,12 +1,5 @@
--- A whole source text: its pieces, its tokens, and its first broken rule (ISO/IEC 1539-1:2018, 6.3.2).
-use Rattle.std.specs.Prelude.{◌≡◌, ℕ, zero, suc, ◌+◌, ◌-◌, ◌≤◌, List, [], ◌∷◌, ◌++◌, length, take, option_to_list, Option, Some, None, Result, Ok, Err, Bool, true, false, nat_lt, if◌then◌else◌}
-use Rattle.std.specs.declared.vec.Vec.{Vec}
-use Rattle.std.specs.declared.alloc.Global.{Global}
-use Rattle.jf_base.specs.declared.place.Place.{Place}
-use Rattle.jf_base.specs.declared.place.Refusal.{Refusal}
-use Rattle.jf_base.specs.declared.place.Refusal.TheVariants.{Memory, At}
-use Rattle.jf_base.specs.declared.tag.Tag.{Tag}
-use Rattle.f_lex.specs.declared.fault.Rule.TheVariants as rule
+-- A whole source text read from left to right: its pieces, its tokens, and which rules it breaks (ISO/IEC 1539-1:2018, 6.3.2).
+use Rattle.std.specs.Prelude.{◌≡◌, ℕ, zero, suc, ◌+◌, ◌-◌, ◌≤◌, List, [], ◌∷◌, ◌++◌, length, take, option_to_list, Option, Some, None, true}
 use Rattle.f_lex.specs.declared.piece.Piece.{Piece}
 use Rattle.f_lex.specs.declared.piece.Piece.TheVariants as piece
 use Rattle.f_lex.specs.declared.token.Spanned.{Spanned}
@@ -14,7 +7,7 @@ use Rattle.f_lex.specs.declared.reader.Point.{Point}
 use Rattle.f_lex.specs.declared.reader.Fault.{Fault}
 use Rattle.f_lex.specs.declared.reader.Position.{Position}
 use Rattle.f_lex.specs.Pieces.{piece_at}
-use Rattle.f_lex.specs.Rules.{tag_number, least, advanced, token_break, piece_break, count_break, length_break, moved, given, long_lines}
+use Rattle.f_lex.specs.Rules.{least, advanced, token_break, piece_break, count_break, length_break, moved, given, long_lines}
 
 -- a piece and its bytes
 abbrev pub Cut : Type 0
@@ -56,23 +49,9 @@ start before = record { offset = 0; point = first_point; first_on_line = true; s
 abbrev pub breaks_of : ℕ → List ℕ → List (Option Fault)
 breaks_of before bytes = long_lines 1 0 bytes ++ breaks_from (start before) (cuts (length bytes) bytes)
 
--- the first broken rule: the size of the file is looked at first, and then comes the earliest place and there the smallest tag
-abbrev pub first_broken : ℕ → List ℕ → Option Fault
-first_broken before bytes = if nat_lt 1048576 (length bytes) then Some (record { point = first_point; rule = rule.TooMany }) else least None (breaks_of before bytes)
-
 -- the tokens of a text
 abbrev pub tokens_of : ℕ → ℕ → List ℕ → List Spanned
 tokens_of file before bytes = tokens_from file (start before) (cuts (length bytes) bytes)
-
-abbrev pub IsRefused : ℕ → Option Fault → Refusal → Type 0
-IsRefused file broken Memory = Unit {0}
-IsRefused file None (At place tag) = ⊥
-IsRefused file (Some f) (At place tag) = (place ≡ record { file = file; line = f.point.line; column = f.point.column }) × (tag.0 ≡ tag_number f.rule)
-
--- what `lex` answers: the tokens where no rule is broken, or else the first broken rule, or that memory was wanting
-abbrev pub IsLexed : ℕ → ℕ → List ℕ → Result (Vec Spanned Global) Refusal → Type 0
-IsLexed file before bytes (Ok v) = (first_broken before bytes ≡ None) × (v.items ≡ tokens_of file before bytes)
-IsLexed file before bytes (Err e) = IsRefused file (first_broken before bytes) e
 
 -- what reading all pieces finds: the first broken rule of those that are asked, or the tokens
 pub record IsFound (file before : ℕ) (bytes : List ℕ) (broken : Option Fault) (tokens : List Spanned) : Type 0 where

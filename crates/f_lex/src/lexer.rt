@@ -1,8 +1,9 @@
 //! From a whole text to its tokens, or to its first broken rule.
 
 ghost use Rattle.std.specs.Prelude.{◌≡◌, ◌+◌, ◌≤◌, ◌++◌, None, length, take, option_to_list, OnOk, IfOk};
-ghost use Rattle.f_lex.specs.Source.{IsLexed, IsFound, IsRefused, IsRoom, position_behind, point_behind};
-ghost use Rattle.f_lex.specs.Rules.{first_break, given};
+ghost use Rattle.f_lex.specs.Lexing.{IsLexed};
+ghost use Rattle.f_lex.specs.Source.{IsFound, IsRoom, position_behind, point_behind};
+ghost use Rattle.f_lex.specs.Rules.{first_break, given, tag_number};
 
 use crate::fault::Rule;
 use crate::piece::{Piece, piece_at};
@@ -82,7 +83,7 @@ fn read(alloc: Global, file: u16, before: u32, bytes: &[u8]) -> Result<Reader, A
 }
 
 fn refusal(file: u16, fault: Fault) -> Refusal
-    ensures { IsRefused file (Some fault) result }
+    ensures { result ≡ Refusal.At (record { file = file; line = fault.point.line; column = fault.point.column }) (record { 0 = tag_number fault.rule }) }
 {
     Refusal::At {
         place: Place {

@@ -6,6 +6,7 @@
 
 mod class;
 mod fault;
+mod laws;
 mod lexer;
 mod lines;
 mod piece;
@@ -14,6 +15,10 @@ mod text;
 mod token;
 mod words;
 
+pub use laws::{
+    each_text_consists_of_pieces, no_broken_rule_beside_tokens, one_first_broken_rule,
+    one_list_of_tokens, pieces_are_those_read, tokens_or_a_broken_rule,
+};
 pub use lexer::lex;
 pub use token::{Kind, Mark, Spanned, Token};
 
