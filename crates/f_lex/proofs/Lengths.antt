@@ -1,6 +1,6 @@
 -- What is left is shorter.
-use Rattle.std.proofs.Common.{◌≡◌, ℕ, zero, suc, ◌+◌, ◌-◌, ◌<◌, ◌≤◌, Bool, true, false, cond, eqb, List, [], ◌∷◌, ◌++◌, length, Option, Some, None, refl, sym, ap, subst, ◌∙◌, arith}
-use Rattle.std.specs.Prelude.{IfSome, not, ◌&&◌}
+use Rattle.std.proofs.Common.{◌≡◌, ℕ, zero, suc, ◌+◌, ◌-◌, ◌≤◌, Bool, true, false, cond, eqb, List, [], ◌∷◌, ◌++◌, length, Option, Some, None, sym, subst, arith}
+use Rattle.std.specs.Prelude.{not, ◌&&◌}
 use Rattle.f_lex.specs.declared.class.Run.{Run}
 use Rattle.f_lex.specs.declared.lines.Context.{Context}
 use Rattle.f_lex.specs.declared.lines.Context.TheVariants.{Inside}
@@ -9,7 +9,7 @@ use Rattle.f_lex.specs.declared.text.Part.TheVariants.{Byte, Doubled, Joined, Cl
 use Rattle.f_lex.specs.declared.text.Body.{Body}
 use Rattle.f_lex.specs.Characters.{Class, Letter, Digit, Underscore, Blank, LineEnd, Exclamation, Ampersand, Quote, Semicolon, Dot, Mark, Unused, Foreign, Nothing, ampersand, class_at, goes_on, is_next}
 use Rattle.f_lex.specs.Lines.{choose, run_at, byte_at, passes_over, next_line, ends_line, is_outside, first_of_line, goes_on_at}
-use Rattle.f_lex.specs.Texts.{part_of_ampersand, part_of, part_at, with_part, body_at}
+use Rattle.f_lex.specs.Texts.{part_of, part_at, with_part, body_at}
 
 abbrev pub AtMost : List ℕ → Option (List ℕ) → Type 0
 AtMost cs None = Unit {0}

@@ -1,5 +1,5 @@
 -- The number of some digits, as a loop reads it.
-use Rattle.std.proofs.Common.{◌≡◌, ◌<◌, ◌≤◌, ◌^◌, ◌+◌, ◌*◌, ◌-◌, ℕ, suc, List, [], ◌∷◌, false, nat_lt, refl, arith, sym, ap, ◌∙◌, drop, get_or, length}
+use Rattle.std.proofs.Common.{◌≡◌, ◌<◌, ◌≤◌, ◌+◌, ◌*◌, ◌-◌, ℕ, suc, List, [], ◌∷◌, false, nat_lt, arith, sym, ap, ◌∙◌, drop, get_or, length}
 use Rattle.std.proofs.lemmas.Bool.Decides.{nat_tests}
 use Rattle.std.proofs.Math.Seq.{drop-cons}
 use Rattle.f_lex.specs.Words.{number_from}

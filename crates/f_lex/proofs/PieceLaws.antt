@@ -1,5 +1,5 @@
 -- Pieces: what is read is spelled so and fits, and what is spelled so and fits is read.
-use Rattle.std.proofs.Common.{◌≡◌, ℕ, zero, suc, ◌+◌, ◌-◌, ◌<◌, ◌≤◌, Bool, true, false, cond, eqb, List, [], ◌∷◌, ◌++◌, length, Option, Some, None, refl, sym, ap, subst, ◌∙◌, arith}
+use Rattle.std.proofs.Common.{◌≡◌, ℕ, ◌+◌, Bool, true, false, cond, eqb, List, [], ◌∷◌, ◌++◌, length, Option, Some, None, refl, sym, ap, subst, ◌∙◌, arith}
 use Rattle.std.specs.Prelude.{not, ◌&&◌}
 use Rattle.f_lex.specs.declared.class.Run.TheVariants as run
 use Rattle.f_lex.specs.declared.fault.Rule.TheVariants as rule
@@ -19,8 +19,8 @@ use Rattle.f_lex.specs.Lines.{choose, run_at, byte_at, next_line, ends_line, is_
 use Rattle.f_lex.specs.Texts.{body_at}
 use Rattle.f_lex.specs.Words.{lowered, kind_of, kind_at, quote_at, kind_quote_at, dot_word, one_or_two, single_mark, double_mark, other_mark, mark_at}
 use Rattle.f_lex.specs.Pieces.{dot, whole, text_of, text_at, word_of, word_at, number_with, number_of_run, number_at, truth_with, dotted_piece, dotted_of, dot_at, joined_or_lost, ampersand_at, marked, piece_of, piece_at}
-use Rattle.f_lex.specs.Grammar.{AreRun, with_lead, Continues, Ending, spell_parts, FitsParts, content_of, continuing, broken_by, KindPart, Plain, Named, Numbered, kind_given, spell_behind, FitsBehind, spell_before, FitsBefore, Part, Shape, Word, Number, Operator, Truth, DotDot, Text, Sign, Blanks, Comment, Joined, LastLine, EndOfLine, Separator, Stray, Alien, spell, BeginsNoDotted, IsStray, IsAlien, Fits, meaning}
-use Rattle.f_lex.proofs.Small.{is_class, class_dot, class_underscore, IsRun, run_sound, run_again, IsByte, byte_sound, byte_again, no_byte, IsContinued, continues_sound, continues_again}
+use Rattle.f_lex.specs.Grammar.{AreRun, Ending, spell_parts, FitsParts, content_of, continuing, broken_by, KindPart, Plain, Named, Numbered, kind_given, spell_behind, FitsBehind, spell_before, FitsBefore, Part, Shape, Word, Number, Operator, Truth, DotDot, Text, Sign, Blanks, Comment, Joined, LastLine, EndOfLine, Separator, Stray, Alien, spell, BeginsNoDotted, IsStray, IsAlien, Fits, meaning}
+use Rattle.f_lex.proofs.Small.{is_class, class_dot, IsRun, run_sound, run_again, IsByte, byte_sound, byte_again, no_byte, IsContinued, continues_sound, continues_again}
 use Rattle.f_lex.proofs.TextLaws.{body_is, body_of, IsBody, body_sound, body_again, length-parts}
 
 -- what is read of these bytes: a shape that is spelled so, fits and means that
@@ -41,9 +41,12 @@ text_sound k quote all body is before q = pick (body_at (length body + 1) quote 
   where
     pick : (x : Body × List ℕ) → IsBody quote [] 0 body x → IsPiece all (text_of (kind_given k) x)
     pick x (ps, e, rest, spelled, fits, same) =
-        subst (λ (x : Body × List ℕ). IsPiece all (text_of (kind_given k) x)) (sym (same ∙ body_from_start quote ps e rest))
-        (Text k quote ps e, is ∙ ap (λ (l : List ℕ). spell_before k (quote ∷ l)) spelled,
-        (before_with k quote body (spell_parts quote ps e rest) spelled before, subst (λ (l : List ℕ). class_at (quote ∷ l) ≡ Quote) spelled q, fits), refl)
+        subst (λ (x : Body × List ℕ). IsPiece all (text_of (kind_given k) x)) (sym (same ∙ body_from_start quote ps e rest)) (
+          Text k quote ps e,
+          is ∙ ap (λ (l : List ℕ). spell_before k (quote ∷ l)) spelled,
+          (before_with k quote body (spell_parts quote ps e rest) spelled before, subst (λ (l : List ℕ). class_at (quote ∷ l) ≡ Quote) spelled q, fits),
+          refl,
+        )
 
 text_again : (k : Option Kind) (quote : ℕ) (ps : List Part) (e : Ending) (rest : List ℕ) → class_at (quote ∷ spell_parts quote ps e rest) ≡ Quote → FitsParts quote ps e rest
     → text_at k quote (spell_parts quote ps e rest) ≡ (piece.Token (token.Text (content_of quote ps) k) (continuing ps) (broken_by e), rest)

@@ -1,5 +1,5 @@
 -- Each piece has a byte at least.
-use Rattle.std.proofs.Common.{◌≡◌, ℕ, zero, suc, ◌+◌, ◌-◌, ◌<◌, ◌≤◌, Bool, true, false, cond, eqb, List, [], ◌∷◌, ◌++◌, length, Option, Some, None, refl, sym, ap, subst, ◌∙◌, arith}
+use Rattle.std.proofs.Common.{◌≡◌, ℕ, zero, suc, ◌+◌, ◌-◌, ◌≤◌, Bool, true, false, cond, eqb, List, [], ◌∷◌, ◌++◌, length, Option, Some, None, refl, arith}
 use Rattle.f_lex.specs.declared.class.Run.{Run}
 use Rattle.f_lex.specs.declared.class.Run.TheVariants as run
 use Rattle.f_lex.specs.declared.fault.Rule.TheVariants as rule
@@ -13,13 +13,12 @@ use Rattle.f_lex.specs.declared.token.Kind.TheVariants as kind
 use Rattle.f_lex.specs.declared.token.Token.TheVariants as token
 use Rattle.f_lex.specs.declared.words.DotWord.{DotWord}
 use Rattle.f_lex.specs.declared.words.DotWord.TheVariants as dotted
-use Rattle.f_lex.specs.declared.piece.Piece.{Piece}
 use Rattle.f_lex.specs.declared.piece.Piece.TheVariants as piece
 use Rattle.f_lex.specs.Characters.{Class, Letter, Digit, Underscore, Blank, LineEnd, Exclamation, Ampersand, Quote, Semicolon, Dot, Mark, Unused, Foreign, Nothing, underscore, class_at, goes_on, is_quote}
 use Rattle.f_lex.specs.Lines.{choose, run_at, byte_at, ends_line, goes_on_at}
 use Rattle.f_lex.specs.Texts.{part_at, with_part, body_at}
 use Rattle.f_lex.specs.Words.{lowered, kind_of, kind_at, quote_at, kind_quote_at, one_or_two, single_mark, double_mark, other_mark, mark_at, dot_word}
-use Rattle.f_lex.specs.Pieces.{dot, whole, text_at, word_of, word_at, number_with, number_of_run, number_at, dotted_piece, dotted_of, dot_at, joined_or_lost, ampersand_at, marked, piece_of, piece_at}
+use Rattle.f_lex.specs.Pieces.{dot, whole, text_at, word_of, word_at, number_with, number_of_run, number_at, dotted_piece, dotted_of, dot_at, joined_or_lost, ampersand_at, piece_of, piece_at}
 use Rattle.f_lex.proofs.Lengths.{AtMost, Less, run-length, byte-length, goes_on_at-length, Shorter, part-length}
 
 -- what is behind a value is at most so long

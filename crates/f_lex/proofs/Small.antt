@@ -1,12 +1,12 @@
 -- Classes, runs, single bytes and continuation: what is read is spelled so, and what is spelled so is read.
-use Rattle.std.proofs.Common.{◌≡◌, ℕ, zero, suc, ◌+◌, ◌<◌, ◌≤◌, Bool, true, false, cond, eqb, List, [], ◌∷◌, ◌++◌, length, Option, Some, None, refl, sym, ap, subst, ◌∙◌, arith}
+use Rattle.std.proofs.Common.{◌≡◌, ℕ, Bool, true, false, cond, eqb, List, [], ◌∷◌, ◌++◌, Option, Some, None, refl, sym, ap, subst, ◌∙◌}
 use Rattle.std.specs.Prelude.{◌||◌, ◌&&◌, not}
 use Rattle.std.proofs.lemmas.Bool.{eqb-true, eq-eqb}
 use Rattle.f_lex.specs.declared.class.Run.{Run}
 use Rattle.f_lex.specs.declared.class.Run.TheVariants as run
 use Rattle.f_lex.specs.declared.lines.Context.{Context}
 use Rattle.f_lex.specs.declared.lines.Context.TheVariants.{Outside, Inside}
-use Rattle.f_lex.specs.Characters.{Class, Letter, Digit, Underscore, Blank, LineEnd, Exclamation, Ampersand, Quote, Semicolon, Dot, Mark, Unused, Foreign, Nothing, line_feed, carriage_return, ampersand, underscore, within, from_blank, from_dot, class_of, class_at, goes_on, is_next, is_quote}
+use Rattle.f_lex.specs.Characters.{Class, Letter, Digit, Underscore, Blank, LineEnd, Exclamation, Ampersand, Quote, Semicolon, Dot, Mark, Unused, Foreign, Nothing, line_feed, carriage_return, ampersand, underscore, within, from_blank, from_dot, class_of, class_at, goes_on, is_next}
 use Rattle.f_lex.specs.Lines.{choose, run_at, byte_at, passes_over, next_line, is_outside, ends_line, first_of_line, goes_on_at}
 use Rattle.f_lex.specs.Grammar.{AreRun, AreBetween, with_lead, HasLead, Continues}
 
@@ -168,13 +168,17 @@ IsContinued x cs None = Unit {0}
 IsContinued x cs (Some rest) = (between : List ℕ) × (lead : Bool) × (cs ≡ between ++ with_lead lead rest) × Continues x between lead rest
 
 continued : (x : Context) (cs xs line : List ℕ) → ends_line x cs ≡ true → cs ≡ xs ++ line → AreBetween false xs line → HasLead x line → (lead : Bool) × (line ≡ with_lead lead (first_of_line x line)) → IsContinued x cs (Some (first_of_line x line))
-continued x cs xs line e is are has (lead, l) =
-    (xs, lead, is ∙ ap (λ r. xs ++ r) l, record {
-      last = subst (λ (r : List ℕ). ends_line x r ≡ true) (is ∙ ap (λ r. xs ++ r) l) e;
-      stands_between = subst (AreBetween false xs) l are;
-      has_lead = subst (HasLead x) l has;
-      goes_on = ap (first_of_line x) (sym l);
-    })
+continued x cs xs line e is are has (lead, l) = (
+  xs,
+  lead,
+  is ∙ ap (λ r. xs ++ r) l,
+  record {
+    last = subst (λ (r : List ℕ). ends_line x r ≡ true) (is ∙ ap (λ r. xs ++ r) l) e;
+    stands_between = subst (AreBetween false xs) l are;
+    has_lead = subst (HasLead x) l has;
+    goes_on = ap (first_of_line x) (sym l);
+  },
+)
 
 pub continues_sound : (x : Context) (cs : List ℕ) → ends_line x cs ≡ true → IsContinued x cs (goes_on_at x cs)
 unfolding goes_on_at

@@ -3,17 +3,16 @@ use Rattle.std.proofs.Common.{◌≡◌, ℕ, zero, suc, ◌+◌, ◌-◌, ◌<�
 use Rattle.std.proofs.lemmas.Bool.{eqb-true, eq-eqb}
 use Rattle.std.proofs.lemmas.List.{append-nil}
 use Rattle.f_lex.specs.declared.fault.Rule.{Rule}
-use Rattle.f_lex.specs.declared.fault.Rule.TheVariants as rule
 use Rattle.f_lex.specs.declared.lines.Context.TheVariants.{Inside}
 use Rattle.f_lex.specs.declared.text.Part.{Part as Read}
 use Rattle.f_lex.specs.declared.text.Part.TheVariants as read
 use Rattle.f_lex.specs.declared.text.Body.{Body}
 use Rattle.f_lex.specs.Characters.{Class, Letter, Digit, Underscore, Blank, LineEnd, Exclamation, Ampersand, Quote, Semicolon, Dot, Mark, Unused, Foreign, Nothing, ampersand, class_at, is_next, ends_line as line_ends}
 use Rattle.f_lex.specs.Lines.{choose, byte_at, ends_line, goes_on_at}
-use Rattle.f_lex.specs.Texts.{part_of_ampersand, part_of, part_at, with_part, body_at}
+use Rattle.f_lex.specs.Texts.{part_of, part_at, with_part, body_at}
 use Rattle.f_lex.specs.Grammar.{with_lead, Continues, Part, Char, Doubled, Split, Ending, Closed, Open, Lost, spell_ending, spell_parts, IsCharacter, HasNoLine, FitsEnding, FitsParts, content_of, continuing, broken_by}
 use Rattle.f_lex.proofs.Lengths.{Shorter, part-length}
-use Rattle.f_lex.proofs.Small.{Means, class_means, is_class, class_ampersand, no_quote, IsByte, byte_sound, byte_again, no_byte, IsContinued, continues_sound, continues_again}
+use Rattle.f_lex.proofs.Small.{is_class, class_ampersand, no_quote, IsByte, byte_sound, byte_again, no_byte, IsContinued, continues_sound, continues_again}
 
 -- ---- one part
 
@@ -109,17 +108,27 @@ body_sound (suc k) quote content passed bytes le = pick (part_at quote bytes) (p
     pick : (p : Read × List ℕ) → Shorter bytes p → IsStep quote bytes p → ((content : List ℕ) (passed : ℕ) (next : List ℕ) → length next + 1 ≤ k → IsBody quote content passed next (body_at k quote content passed next))
         → IsBody quote content passed bytes (with_part quote content passed bytes p (body_at k quote))
     pick (read.Byte c, next) short (is, isnt, fits) ih =
-        let (ps, e, rest, spelled, all, same) = ih (content ++ c ∷ []) passed next (omega (arith, le, short)) in
-        (Char c ∷ ps, e, rest, is ∙ ap (λ l. c ∷ l) spelled, (isnt, subst (λ (l : List ℕ). IsCharacter (class_at (c ∷ l)) l) spelled fits, all),
-        same ∙ body_is _ _ _ _ (broken_by e) rest (append_assoc content (c ∷ []) (content_of quote ps)) refl)
+        let (ps, e, rest, spelled, all, same) = ih (content ++ c ∷ []) passed next (omega (arith, le, short)) in (
+          Char c ∷ ps,
+          e,
+          rest,
+          is ∙ ap (λ l. c ∷ l) spelled,
+          (isnt, subst (λ (l : List ℕ). IsCharacter (class_at (c ∷ l)) l) spelled fits, all),
+          same ∙ body_is _ _ _ _ (broken_by e) rest (append_assoc content (c ∷ []) (content_of quote ps)) refl,
+        )
     pick (read.Doubled, next) short is ih =
         let (ps, e, rest, spelled, all, same) = ih (content ++ quote ∷ []) passed next (omega (arith, le, short)) in
         (Doubled ∷ ps, e, rest, is ∙ ap (λ l. quote ∷ quote ∷ l) spelled, all, same ∙ body_is _ _ _ _ (broken_by e) rest (append_assoc content (quote ∷ []) (content_of quote ps)) refl)
     pick (read.Joined, next) short (between, lead, is, h) ih =
         let (ps, e, rest, spelled, all, same) = ih content (passed + (length bytes - length next)) next (omega (arith, le, short)) in
-        let len : length bytes - length next ≡ 1 + length between + length (with_lead lead []) = ap (λ l. length l - length next) is ∙ split-length between lead next in
-        (Split between lead ∷ ps, e, rest, is ∙ ap (λ l. ampersand ∷ (between ++ with_lead lead l)) spelled, (subst (Continues Inside between lead) spelled h, all),
-        same ∙ body_is _ _ _ _ (broken_by e) rest refl (omega (arith, len)))
+        let len : length bytes - length next ≡ 1 + length between + length (with_lead lead []) = ap (λ l. length l - length next) is ∙ split-length between lead next in (
+          Split between lead ∷ ps,
+          e,
+          rest,
+          is ∙ ap (λ l. ampersand ∷ (between ++ with_lead lead l)) spelled,
+          (subst (Continues Inside between lead) spelled h, all),
+          same ∙ body_is _ _ _ _ (broken_by e) rest refl (omega (arith, len)),
+        )
     pick (read.Closed, next) short (is, isnt) ih = ([], Closed, next, is, isnt, last_body quote content passed Closed next)
     pick (read.Open, next) short (is, isnt) ih = ([], Open, next, is, isnt, last_body quote content passed Open next)
     pick (read.Lost, next) short (is, last, none) ih = ([], Lost, next, is, (last, none), last_body quote content passed Lost next)

@@ -1,6 +1,6 @@
 -- A whole text, as a loop reads it piece after piece.
-use Rattle.std.proofs.Common.{◌≡◌, ℕ, zero, suc, ◌+◌, ◌-◌, ◌<◌, ◌≤◌, Bool, true, false, cond, eqb, List, [], ◌∷◌, ◌++◌, length, take, Option, Some, None, refl, sym, ap, subst, ◌∙◌, arith, append_assoc}
-use Rattle.std.specs.Prelude.{option_to_list, is_some}
+use Rattle.std.proofs.Common.{◌≡◌, ℕ, zero, suc, ◌+◌, ◌≤◌, Bool, true, false, cond, eqb, List, [], ◌∷◌, ◌++◌, length, Option, Some, None, refl, sym, ap, subst, ◌∙◌, arith, append_assoc}
+use Rattle.std.specs.Prelude.{option_to_list}
 use Rattle.std.proofs.lemmas.List.{append-nil}
 use Rattle.f_lex.specs.declared.piece.Piece.{Piece}
 use Rattle.f_lex.specs.declared.piece.Piece.TheVariants as piece
@@ -10,8 +10,8 @@ use Rattle.f_lex.specs.declared.reader.Fault.{Fault}
 use Rattle.f_lex.specs.declared.reader.Position.{Position}
 use Rattle.f_lex.specs.Characters.{line_feed}
 use Rattle.f_lex.specs.Pieces.{piece_at}
-use Rattle.f_lex.specs.Rules.{is_before, reported, least, next_point, advanced, token_break, piece_break, count_break, length_break, first_break, gives_token, characters_with, moved, given, long_lines}
-use Rattle.f_lex.specs.Source.{Cut, spelled_by, cuts, point_behind, position_behind, breaks_from, tokens_from, start, breaks_of, tokens_of, IsRoom, IsFound}
+use Rattle.f_lex.specs.Rules.{is_before, reported, least, advanced, first_break, gives_token, characters_with, moved, given, long_lines}
+use Rattle.f_lex.specs.Source.{Cut, spelled_by, cuts, point_behind, position_behind, breaks_from, tokens_from, start, breaks_of, tokens_of, IsRoom}
 use Rattle.f_lex.proofs.Shorter.{piece-length}
 
 -- ---- faults
@@ -99,12 +99,13 @@ module _ (file : ℕ) (at : Position) (tokens : List Spanned) (fault : Option Fa
   behind_one : (x : Cut) (xs : List Cut) → Took file at tokens fault x new_at new_tokens new_fault → least fault (breaks_from at (x ∷ xs)) ≡ broken → (fault ≡ None → tokens ++ tokens_from file at (x ∷ xs) ≡ all)
       → (least new_fault (breaks_from new_at xs) ≡ broken) × (new_fault ≡ None → new_tokens ++ tokens_from file new_at xs ≡ all)
   unfolding first_break
-  behind_one x xs took first so_far =
-      (ap (λ f. least f (breaks_from new_at xs)) took.broken ∙ ap (λ a. least (first_break fault at x.0 (length x.1) (point_behind at x)) (breaks_from a xs)) took.position ∙ first,
-      λ none.
+  behind_one x xs took first so_far = (
+    ap (λ f. least f (breaks_from new_at xs)) took.broken ∙ ap (λ a. least (first_break fault at x.0 (length x.1) (point_behind at x)) (breaks_from a xs)) took.position ∙ first,
+    λ none.
         ap (λ l. l ++ tokens_from file new_at xs) (took.given_tokens none) ∙ ap (λ a. (tokens ++ option_to_list (given file at x.0 (length x.1))) ++ tokens_from file a xs) took.position
         ∙ append_assoc tokens (option_to_list (given file at x.0 (length x.1))) (tokens_from file (position_behind at x) xs)
-        ∙ so_far (first_break-none fault at x.0 (length x.1) (point_behind at x) (sym took.broken ∙ none)))
+        ∙ so_far (first_break-none fault at x.0 (length x.1) (point_behind at x) (sym took.broken ∙ none)),
+  )
 
   pub goes_on : (p : Piece) (rest next : List ℕ) → 1 ≤ length rest → let y : Piece × List ℕ = (p, next) in y ≡ piece_at rest
       → Took file at tokens fault (p, spelled_by rest next) new_at new_tokens new_fault → Goes file at tokens fault rest broken all → Goes file new_at new_tokens new_fault next broken all

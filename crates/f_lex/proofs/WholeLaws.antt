@@ -1,14 +1,14 @@
 -- Whole texts: each consists of pieces, they are those that are read, and so it has one list of tokens or one first broken rule.
-use Rattle.std.proofs.Common.{◌≡◌, ℕ, zero, suc, ◌+◌, ◌-◌, ◌<◌, ◌≤◌, nat_lt, Bool, true, false, List, [], ◌∷◌, ◌++◌, ◌⊎◌, inl, inr, length, take, Option, Some, None, Result, Ok, Err, Vec, refl, sym, ap, subst, ◌∙◌, arith, append_assoc, length-append}
+use Rattle.std.proofs.Common.{◌≡◌, ℕ, zero, suc, ◌+◌, ◌-◌, ◌<◌, ◌≤◌, nat_lt, Bool, true, false, List, [], ◌∷◌, ◌++◌, ◌⊎◌, inl, inr, length, take, Option, Some, None, Result, Err, Vec, refl, sym, ap, subst, ◌∙◌, arith, append_assoc, length-append}
 use Rattle.std.proofs.Math.Seq.{take-append_seam}
 use Rattle.std.proofs.lemmas.List.{append-nil}
 use Rattle.std.proofs.lemmas.Bool.Decides.{nat_tests}
 use Rattle.f_lex.specs.declared.piece.Piece.{Piece}
 use Rattle.f_lex.specs.declared.token.Spanned.{Spanned}
 use Rattle.f_lex.specs.declared.reader.Fault.{Fault}
-use Rattle.f_lex.specs.Characters.{Class, Letter, Digit, Quote, Nothing, ampersand, underscore, class_at}
+use Rattle.f_lex.specs.Characters.{Letter, Digit, Nothing, ampersand, underscore, class_at}
 use Rattle.f_lex.specs.Pieces.{dot, piece_at}
-use Rattle.f_lex.specs.Rules.{tag_number, is_before, least, long_lines}
+use Rattle.f_lex.specs.Rules.{tag_number, least, long_lines}
 use Rattle.f_lex.specs.Source.{Cut, spelled_by, cuts, breaks_from, tokens_from, start, breaks_of, tokens_of}
 use Rattle.f_lex.specs.Grammar.{with_lead, Part, Char, Doubled, Split, Ending, Closed, Open, Lost, spell_parts, KindPart, Plain, Named, Numbered, spell_behind, spell_before, FitsBefore, Shape, Word, Number, Operator, Truth, DotDot, Text, Sign, Blanks, Comment, Joined, LastLine, EndOfLine, Separator, Stray, Alien, spell, Fits, meaning, spell_text, FitsText}
 use Rattle.f_lex.specs.Lexing.{Consists, cuts_of, asked, AreKept, IsAmong, NoneBefore, Lexes, BreaksFirst, too_large, Breaks, IsLexed}

@@ -1,5 +1,5 @@
 -- Source form as a relation: which pieces there are, how each is spelled in front of what follows it, and where it fits (ISO/IEC 1539-1:2018, 6.2 and 6.3.2).
-use Rattle.std.specs.Prelude.{◌≡◌, ℕ, zero, suc, ◌+◌, ◌≤◌, List, [], ◌∷◌, ◌++◌, length, Option, Some, None, Bool, true, false, ◌==◌, if◌then◌else◌}
+use Rattle.std.specs.Prelude.{◌≡◌, ℕ, ◌+◌, List, [], ◌∷◌, ◌++◌, length, Option, Some, None, Bool, true, false, ◌==◌}
 use Rattle.f_lex.specs.declared.class.Run.{Run}
 use Rattle.f_lex.specs.declared.class.Run.TheVariants as run
 use Rattle.f_lex.specs.declared.fault.Rule.{Rule}

@@ -1,5 +1,5 @@
 -- The pieces of a source text: tokens (ISO/IEC 1539-1:2018, 6.2), and what stands between them (6.3.2).
-use Rattle.std.specs.Prelude.{ℕ, ◌+◌, List, [], ◌∷◌, length, Option, Some, None, Bool, true, false, if◌then◌else◌}
+use Rattle.std.specs.Prelude.{ℕ, ◌+◌, List, [], ◌∷◌, length, Option, Some, None, Bool, if◌then◌else◌}
 use Rattle.f_lex.specs.declared.class.Run.TheVariants as run
 use Rattle.f_lex.specs.declared.fault.Rule.TheVariants as rule
 use Rattle.f_lex.specs.declared.lines.Context.TheVariants.{Outside}

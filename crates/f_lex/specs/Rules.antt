@@ -1,6 +1,5 @@
 -- What the pieces of a text give: tokens, and where they break a rule.
-use Rattle.std.specs.Prelude.{ℕ, zero, suc, ◌+◌, ◌-◌, List, [], ◌∷◌, ◌++◌, length, take, option_to_list, Option, Some, None, is_some, Bool, true, false, ◌==◌, ◌&&◌, not, nat_lt, nat_le, if◌then◌else◌}
-use Rattle.jf_base.specs.declared.place.Place.{Place}
+use Rattle.std.specs.Prelude.{ℕ, ◌+◌, ◌-◌, List, [], ◌∷◌, length, Option, Some, None, is_some, Bool, true, false, ◌==◌, ◌&&◌, not, nat_lt, nat_le, if◌then◌else◌}
 use Rattle.f_lex.specs.declared.fault.Rule.{Rule}
 use Rattle.f_lex.specs.declared.fault.Rule.TheVariants as rule
 use Rattle.f_lex.specs.declared.piece.Piece.{Piece}
@@ -15,7 +14,6 @@ use Rattle.f_lex.specs.declared.reader.Fault.{Fault}
 use Rattle.f_lex.specs.declared.reader.Position.{Position}
 use Rattle.f_lex.specs.Characters.{carriage_return, line_feed, is_next}
 use Rattle.f_lex.specs.Words.{number_of}
-use Rattle.f_lex.specs.Pieces.{piece_at}
 
 -- ---- rules and their order
 

@@ -1,5 +1,5 @@
 -- A whole source text read from left to right: its pieces, its tokens, and which rules it breaks (ISO/IEC 1539-1:2018, 6.3.2).
-use Rattle.std.specs.Prelude.{◌≡◌, ℕ, zero, suc, ◌+◌, ◌-◌, ◌≤◌, List, [], ◌∷◌, ◌++◌, length, take, option_to_list, Option, Some, None, true}
+use Rattle.std.specs.Prelude.{◌≡◌, ℕ, zero, suc, ◌+◌, ◌-◌, ◌≤◌, List, [], ◌∷◌, ◌++◌, length, take, option_to_list, Option, None, true}
 use Rattle.f_lex.specs.declared.piece.Piece.{Piece}
 use Rattle.f_lex.specs.declared.piece.Piece.TheVariants as piece
 use Rattle.f_lex.specs.declared.token.Spanned.{Spanned}

@@ -1,5 +1,5 @@
 -- Character literal constants: what stands between their delimiters (ISO/IEC 1539-1:2018, 7.4.4 and 6.3.2.4).
-use Rattle.std.specs.Prelude.{ℕ, zero, suc, ◌+◌, ◌-◌, List, [], ◌∷◌, ◌++◌, length, Option, Some, None, Bool, true, false, ◌==◌, if◌then◌else◌}
+use Rattle.std.specs.Prelude.{ℕ, zero, suc, ◌+◌, ◌-◌, List, [], ◌∷◌, ◌++◌, length, Some, None, ◌==◌, if◌then◌else◌}
 use Rattle.f_lex.specs.declared.fault.Rule.TheVariants as rule
 use Rattle.f_lex.specs.declared.lines.Context.TheVariants.{Inside}
 use Rattle.f_lex.specs.declared.text.Part.{Part}

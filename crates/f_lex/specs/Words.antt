@@ -9,7 +9,7 @@ use Rattle.f_lex.specs.declared.token.Kind.{Kind}
 use Rattle.f_lex.specs.declared.token.Kind.TheVariants as kind
 use Rattle.f_lex.specs.declared.words.DotWord.{DotWord}
 use Rattle.f_lex.specs.declared.words.DotWord.TheVariants.{Operator, Truth}
-use Rattle.f_lex.specs.Characters.{Class, Letter, Digit, Quote, underscore, class_at, is_quote}
+use Rattle.f_lex.specs.Characters.{Class, Letter, Digit, underscore, class_at, is_quote}
 use Rattle.f_lex.specs.Lines.{choose, run_at, byte_at}
 
 -- letters lowered

@@ -98,12 +98,7 @@ fn refusal(file: u16, fault: Fault) -> Refusal
 /// The tokens of a Fortran file in free source form, each with its offsets and its place (ISO/IEC 1539-1:2018, 6.2 and 6.3.2), where no rule of
 /// source form is broken; or else the first broken rule of `L01` to `L08`, by its place and there by its tag. `file` is the number of the file,
 /// `before` how many tokens the files before have. It takes time in proportion to the length of the file.
-pub fn lex(
-    alloc: Global,
-    file: u16,
-    before: u32,
-    bytes: &[u8],
-) -> Result<Vec<Spanned>, Refusal>
+pub fn lex(alloc: Global, file: u16, before: u32, bytes: &[u8]) -> Result<Vec<Spanned>, Refusal>
     requires { before ≤ 262144 }
     ensures { IsLexed file before bytes.now result }
 {

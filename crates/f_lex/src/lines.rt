@@ -89,7 +89,13 @@ fn first_of_line(context: Context, bytes: &[u8]) -> &[u8]
 {
     match byte_at(b'&', bytes) {
         None => bytes,
-        Some(tail) => { if ends_line(context, tail) { bytes } else { tail } }
+        Some(tail) => {
+            if ends_line(context, tail) {
+                bytes
+            } else {
+                tail
+            }
+        }
     }
 }
 

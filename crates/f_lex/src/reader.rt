@@ -142,8 +142,20 @@ fn kind_rule(kind: &Option<Kind>) -> Option<Rule>
     ensures { result ≡ kind_rule kind.now }
 {
     match kind {
-        Some(Kind::Name(name)) => { if name.len() > NAME_LIMIT { Some(Rule::LongName) } else { None } }
-        Some(Kind::Number(digits)) => { if is_number(digits.as_slice()) { None } else { Some(Rule::NoToken) } }
+        Some(Kind::Name(name)) => {
+            if name.len() > NAME_LIMIT {
+                Some(Rule::LongName)
+            } else {
+                None
+            }
+        }
+        Some(Kind::Number(digits)) => {
+            if is_number(digits.as_slice()) {
+                None
+            } else {
+                Some(Rule::NoToken)
+            }
+        }
         None => None,
     }
 }
@@ -154,10 +166,22 @@ fn token_rule(token: &Token) -> Option<Rule>
     ensures { result ≡ token_rule token.now }
 {
     match token {
-        Token::Name(name) => { if name.len() > NAME_LIMIT { Some(Rule::LongName) } else { None } }
+        Token::Name(name) => {
+            if name.len() > NAME_LIMIT {
+                Some(Rule::LongName)
+            } else {
+                None
+            }
+        }
         Token::Number { digits, kind } => match kind_rule(kind) {
             Some(rule) => Some(rule),
-            None => { if is_number(digits.as_slice()) { None } else { Some(Rule::NoToken) } }
+            None => {
+                if is_number(digits.as_slice()) {
+                    None
+                } else {
+                    Some(Rule::NoToken)
+                }
+            }
         },
         Token::Truth { kind, .. } => kind_rule(kind),
         Token::Text { kind, .. } => kind_rule(kind),
@@ -171,7 +195,10 @@ fn token_break(position: Position, piece: &Piece) -> Option<Fault>
 {
     match piece {
         Piece::Token { token, .. } => match token_rule(token) {
-            Some(rule) => Some(Fault { point: position.point, rule }),
+            Some(rule) => Some(Fault {
+                point: position.point,
+                rule,
+            }),
             None => None,
         },
         _ => None,
@@ -185,8 +212,20 @@ fn piece_break(position: Position, piece: &Piece, behind: Point) -> Option<Fault
     let rule = match piece {
         Piece::Token { broken, .. } => *broken,
         Piece::Ill(rule) => Some(*rule),
-        Piece::Joined => { if position.first_on_line { Some(Rule::NoToken) } else { None } }
-        Piece::Lost => { if position.first_on_line { Some(Rule::NoToken) } else { Some(Rule::LostLine) } }
+        Piece::Joined => {
+            if position.first_on_line {
+                Some(Rule::NoToken)
+            } else {
+                None
+            }
+        }
+        Piece::Lost => {
+            if position.first_on_line {
+                Some(Rule::NoToken)
+            } else {
+                Some(Rule::LostLine)
+            }
+        }
         _ => None,
     };
     match rule {
@@ -258,7 +297,10 @@ fn length_break(position: Position, piece: &Piece, len: usize) -> Option<Fault>
         None => None,
         Some(point) => {
             if characters_with(position, piece, len) > STATEMENT_LIMIT {
-                Some(Fault { point, rule: Rule::LongStatement })
+                Some(Fault {
+                    point,
+                    rule: Rule::LongStatement,
+                })
             } else {
                 None
             }
@@ -320,7 +362,13 @@ pub fn given(file: u16, position: Position, piece: Piece, len: usize) -> Option<
 {
     let token = match piece {
         Piece::Token { token, .. } => Some(token),
-        Piece::LineEnd | Piece::Semicolon => { if position.statement.is_some() { Some(Token::End) } else { None } }
+        Piece::LineEnd | Piece::Semicolon => {
+            if position.statement.is_some() {
+                Some(Token::End)
+            } else {
+                None
+            }
+        }
         _ => None,
     };
     match token {

@@ -1,9 +1,8 @@
+use crate::lexer::lex;
+use crate::token::{Kind, Spanned, Token};
 use jf_base::{List, Refusal};
 use std::alloc::{AllocError, Global};
 use std::test::Fail;
-
-use crate::lexer::lex;
-use crate::token::{Kind, Spanned, Token};
 
 fn write_bytes(out: &mut String, bytes: &List<u8>) -> Result<(), AllocError> {
     for byte in bytes.as_slice() {
@@ -72,21 +71,39 @@ fn tokens_of_the_profile(rt: HostRuntime) -> Result<(), Fail> {
         ("", ""),
         ("\n \n! nothing\n;;  ; !\n", ""),
         ("a=1", " a Assign 1 ;"),
-        ("a = 1;; ;b=2 ; ! c\r\nc=3;\r\n", " a Assign 1 ; b Assign 2 ; c Assign 3 ;"),
+        (
+            "a = 1;; ;b=2 ; ! c\r\nc=3;\r\n",
+            " a Assign 1 ; b Assign 2 ; c Assign 3 ;",
+        ),
         ("\tx\t=\t1\t", " x Assign 1 ;"),
         ("1_c_int 1_8 1_C_INT_'a'", " 1_c_int 1_8 1_c_int_ \"a\" ;"),
         (".true._4 .FALSE. .true.", " T_4 F T ;"),
         ("1.and.2 .AND. .or. .not.a", " 1 And 2 And Or Not a ;"),
         (".eqv..neqv. a.eq.b.ne.c", " Eqv Neqv a DotEq b DotNe c ;"),
-        ("a.lt.b.le.c.gt.d.ge.e", " a DotLt b DotLe c DotGt d DotGe e ;"),
+        (
+            "a.lt.b.le.c.gt.d.ge.e",
+            " a DotLt b DotLe c DotGt d DotGe e ;",
+        ),
         ("a**b*c", " a Power b Star c ;"),
         ("a//b/c/=d", " a Concat b Slash c NotEqual d ;"),
-        ("p=>q a>=b<=c==d<e>f", " p Arrow q a GreaterEqual b LessEqual c Equal d Less e Greater f ;"),
+        (
+            "p=>q a>=b<=c==d<e>f",
+            " p Arrow q a GreaterEqual b LessEqual c Equal d Less e Greater f ;",
+        ),
         ("a::b:c :::", " a DoubleColon b Colon c DoubleColon Colon ;"),
         ("(/ 1 /)", " Open Slash 1 Slash Close ;"),
-        ("a%b(1:2,..)[+-]", " a Percent b Open 1 Colon 2 Comma DotDot Close OpenBracket Plus Minus CloseBracket ;"),
-        ("'it''s' \"it's\" \"\"\"\" ''", " \"it's\" \"it's\" \"\"\" \"\" ;"),
-        ("c_char_'aB' 1_\"x\" a_ 'x'", " \"aB\"_c_char \"x\"_1 a_ \"x\" ;"),
+        (
+            "a%b(1:2,..)[+-]",
+            " a Percent b Open 1 Colon 2 Comma DotDot Close OpenBracket Plus Minus CloseBracket ;",
+        ),
+        (
+            "'it''s' \"it's\" \"\"\"\" ''",
+            " \"it's\" \"it's\" \"\"\" \"\" ;",
+        ),
+        (
+            "c_char_'aB' 1_\"x\" a_ 'x'",
+            " \"aB\"_c_char \"x\"_1 a_ \"x\" ;",
+        ),
         ("'!a;&b' ! 'c", " \"!a;&b\" ;"),
         ("9223372036854775807 00", " 9223372036854775807 00 ;"),
         (
@@ -95,7 +112,11 @@ fn tokens_of_the_profile(rt: HostRuntime) -> Result<(), Fail> {
         ),
     ];
     for (source, wanted) in table {
-        assert_eq!(rt; shown(rt.alloc(), 0, source.as_bytes())?.as_str(), wanted, "of {source:?}");
+        assert_eq!(rt;
+            shown(rt.alloc(), 0, source.as_bytes())?.as_str(),
+            wanted,
+            "of {source:?}"
+        );
     }
     Ok(())
 }
@@ -118,7 +139,11 @@ fn continued_lines(rt: HostRuntime) -> Result<(), Fail> {
         ("'a&\n&''b'", " \"a'b\" ;"),
     ];
     for (source, wanted) in table {
-        assert_eq!(rt; shown(rt.alloc(), 0, source.as_bytes())?.as_str(), wanted, "of {source:?}");
+        assert_eq!(rt;
+            shown(rt.alloc(), 0, source.as_bytes())?.as_str(),
+            wanted,
+            "of {source:?}"
+        );
     }
     Ok(())
 }
@@ -171,7 +196,11 @@ fn broken_rules(rt: HostRuntime) -> Result<(), Fail> {
         ),
     ];
     for (source, wanted) in table {
-        assert_eq!(rt; shown(rt.alloc(), 0, source.as_bytes())?.as_str(), wanted, "of {source:?}");
+        assert_eq!(rt;
+            shown(rt.alloc(), 0, source.as_bytes())?.as_str(),
+            wanted,
+            "of {source:?}"
+        );
     }
     Ok(())
 }
@@ -227,7 +256,10 @@ fn long_lines_and_files(rt: HostRuntime) -> Result<(), Fail> {
         (repeated(alloc, "$\n", " ", 10_001, "")?, "1:1 106"),
         (repeated(alloc, "x\n'$", "a", 9_999, "\n")?, "2:1 101"),
         (repeated(alloc, "", "! a comment    \n", 65_536, "")?, ""),
-        (repeated(alloc, "", "! a comment    \n", 65_536, " ")?, "1:1 107"),
+        (
+            repeated(alloc, "", "! a comment    \n", 65_536, " ")?,
+            "1:1 107",
+        ),
     ];
     for (source, wanted) in table {
         assert_eq!(rt; shown(alloc, 0, source.as_slice())?.as_str(), wanted);

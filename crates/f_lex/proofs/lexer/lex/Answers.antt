@@ -1,4 +1,4 @@
-use Rattle.std.proofs.Common.{◌≤◌, length, inl, inr, refl, sym, subst, ◌∙◌, arith}
+use Rattle.std.proofs.Common.{◌≤◌, length, inl, inr, refl, sym, ◌∙◌, arith}
 use Rattle.f_lex.specs.Source.{IsFound}
 use Rattle.f_lex.proofs.WholeLaws.{refused, found_tokens, found_fault}
 use Rattle.f_lex.proofs.lexer.lex.Goals as goal

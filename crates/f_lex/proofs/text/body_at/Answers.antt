@@ -1,4 +1,4 @@
-use Rattle.std.proofs.Common.{◌≡◌, ◌+◌, ◌-◌, ◌<◌, ◌≤◌, [], ◌∷◌, ◌++◌, length, ℕ, List, ap, subst, sym, ◌∙◌, arith}
+use Rattle.std.proofs.Common.{◌+◌, [], length, ℕ, List, ap, subst, sym, ◌∙◌, arith}
 use Rattle.f_lex.specs.declared.text.Body.{Body}
 use Rattle.f_lex.specs.declared.text.Part.TheVariants.{Byte, Doubled, Joined, Closed, Open, Lost}
 use Rattle.f_lex.specs.Texts.{body_at}
@@ -29,7 +29,7 @@ parts-smaller-in_ok-push-in-Byte c = omega (arith, shorter c.args.quote c.parts.
 pub parts-preserved-in_ok-push-in-Byte : goal.parts-preserved-in_ok-push-in-Byte
 parts-preserved-in_ok-push-in-Byte c = record {
   comes = subst (λ (l : List ℕ). Comes c.args.quote l c.parts.passed c.part_at-part.result.1.now (body_at (length c.args.bytes.now + 1) c.args.quote [] 0 c.args.bytes.now)) (sym c.in_ok-push-in-Byte.ensures.ok)
-    (behind c.args.quote c.parts.content c.parts.passed c.parts.rest.now _ _ (Byte c.in-Byte.byte) c.part_at-part.result.1.now c.part_at-part.ensures c.in-Byte.is c.parts.invariant.comes);
+      (behind c.args.quote c.parts.content c.parts.passed c.parts.rest.now _ _ (Byte c.in-Byte.byte) c.part_at-part.result.1.now c.part_at-part.ensures c.in-Byte.is c.parts.invariant.comes);
   room = omega (arith, shorter c.args.quote c.parts.rest.now _ (Byte c.in-Byte.byte) c.part_at-part.result.1.now c.part_at-part.ensures c.in-Byte.is, c.parts.invariant.room);
 }
 
@@ -39,7 +39,7 @@ parts-smaller-in_ok-push-in-Doubled c = omega (arith, shorter c.args.quote c.par
 pub parts-preserved-in_ok-push-in-Doubled : goal.parts-preserved-in_ok-push-in-Doubled
 parts-preserved-in_ok-push-in-Doubled c = record {
   comes = subst (λ (l : List ℕ). Comes c.args.quote l c.parts.passed c.part_at-part.result.1.now (body_at (length c.args.bytes.now + 1) c.args.quote [] 0 c.args.bytes.now)) (sym c.in_ok-push-in-Doubled.ensures.ok)
-    (behind c.args.quote c.parts.content c.parts.passed c.parts.rest.now _ _ Doubled c.part_at-part.result.1.now c.part_at-part.ensures c.in-Doubled.is c.parts.invariant.comes);
+      (behind c.args.quote c.parts.content c.parts.passed c.parts.rest.now _ _ Doubled c.part_at-part.result.1.now c.part_at-part.ensures c.in-Doubled.is c.parts.invariant.comes);
   room = omega (arith, shorter c.args.quote c.parts.rest.now _ Doubled c.part_at-part.result.1.now c.part_at-part.ensures c.in-Doubled.is, c.parts.invariant.room);
 }
 

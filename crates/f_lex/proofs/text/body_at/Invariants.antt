@@ -1,4 +1,4 @@
-use Rattle.std.proofs.Common.{◌≡◌, ◌+◌, ◌≤◌, [], length}
+use Rattle.std.proofs.Common.{◌+◌, ◌≤◌, [], length}
 use Rattle.f_lex.specs.Texts.{body_at}
 use Rattle.f_lex.proofs.Lengths.{Comes}
 use Rattle.f_lex.proofs.text.body_at.Given as goal

@@ -1,4 +1,4 @@
-use Rattle.std.proofs.Common.{refl, ap, sym, subst, ◌∙◌, ◌≤◌, ◌+◌, ◌*◌, ℕ, arith}
+use Rattle.std.proofs.Common.{refl, subst, ◌≤◌, ◌+◌, ◌*◌, ℕ, arith}
 use Rattle.f_lex.specs.Words.{number_of}
 use Rattle.f_lex.proofs.Numbers.{too_large}
 use Rattle.f_lex.proofs.words.is_number.Goals as goal
