@@ -139,7 +139,7 @@ abbrev pub length_of : Option Point → ℕ → Option Fault
 length_of None n = None
 length_of (Some p) n = if nat_lt 1000000 n then Some (record { point = p; rule = rule.LongStatement }) else None
 
--- a statement has at most 1,000,000 characters
+-- a statement has at most 1,000,000 characters (ISO/IEC 1539-1:2023, 6.3.2.6)
 unfoldable pub length_break : Position → Piece → ℕ → Option Fault
 length_break at p len = length_of (statement_with at p) (characters_with at p len)
 
@@ -178,7 +178,7 @@ given file at _ len = None
 abbrev pub long_line : ℕ → ℕ → Option Fault
 long_line line characters = if nat_lt 10000 characters then Some (record { point = record { line = line; column = 1 }; rule = rule.LongLine }) else None
 
--- of each line whether it has more than 10,000 characters; a carriage return before the line feed belongs to the line end
+-- of each line whether it has more than 10,000 characters (ISO/IEC 1539-1:2023, 6.3.2.1); a carriage return before the line feed belongs to the line end
 unfoldable pub long_lines : ℕ → ℕ → List ℕ → List (Option Fault)
 long_lines line n [] = long_line line n ∷ []
 long_lines line n (c ∷ cs) = if c == line_feed then long_line line n ∷ long_lines (line + 1) 0 cs

@@ -21,7 +21,7 @@ kind_of Letter cs bytes = (Some (kind.Name (lowered (run_at run.Name cs).0)), (r
 kind_of Digit cs bytes = (Some (kind.Number (lowered (run_at run.Digits cs).0)), (run_at run.Digits cs).1)
 kind_of _ cs bytes = (None, bytes)
 
--- an underscore and a kind, which is a name or digits (6.2.4, 7.4.3.1), if they stand first, and the rest
+-- an underscore and a kind, which is a name or digits (7.4.3.1), if they stand first, and the rest
 unfoldable pub kind_at : List ℕ → Option Kind × List ℕ
 kind_at cs = choose (byte_at underscore cs) (None, cs) (λ r. kind_of (class_at r) r cs)
 
@@ -38,7 +38,7 @@ abbrev pub number_from : ℕ → List ℕ → ℕ
 number_from n [] = n
 number_from n (d ∷ ds) = number_from (n * 10 + (d - 48)) ds
 
--- the number that digits stand for in the decimal system (6.2.4)
+-- the number that digits stand for in the decimal system (7.4.3.1)
 unfoldable pub number_of : List ℕ → ℕ
 number_of ds = number_from 0 ds
 

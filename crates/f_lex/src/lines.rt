@@ -6,7 +6,7 @@ ghost use Rattle.f_lex.specs.Lines.{run_at, byte_at, seen, passes_over, next_lin
 
 use crate::class::{Class, Run, class_at, goes_on, is_next};
 
-/// Whether a character context is open (ISO/IEC 1539-1:2018, 6.3.2.1).
+/// Whether a text is open, a character context of ISO/IEC 1539-1:2018, 6.3.2.
 #[derive(Clone, Copy, Debug, PartialEq, Eq)]
 pub enum Context {
     Outside,
