@@ -1,0 +1,2 @@
+//! What a program of the first form means.
+#![tactic(auto)]

@@ -1,0 +1,4 @@
+pub mod Units
+pub mod Work
+pub mod Run
+pub mod Doing

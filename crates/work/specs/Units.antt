@@ -1,0 +1,11 @@
+-- Something at each number of units.
+use Rattle.std.specs.Prelude.{ℕ, zero, suc}
+
+-- now, before this unit is done; then the rest
+abbrev pub unit : {S : Type 0} → S → (ℕ → S) → ℕ → S
+unit now next zero = now
+unit now next (suc n) = next n
+
+-- an end is a unit itself, and after it nothing changes
+abbrev pub ended : {S : Type 0} → S → S → ℕ → S
+ended now end = unit now (λ n. end)
