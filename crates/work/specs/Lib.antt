@@ -2,3 +2,5 @@ pub mod Units
 pub mod Work
 pub mod Run
 pub mod Doing
+pub mod Same
+pub mod Like

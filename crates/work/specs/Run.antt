@@ -56,8 +56,12 @@ Back V M P = Outcome V → World M → Run P
 abbrev pub Calls : Type 0 → Type 0 → Type 0 → Type 0
 Calls V M P = (procedure : ℕ) → List V → World M → (List V → World M → Run P) → Run P
 
+-- a turn of a loop, from what the loop carries
+abbrev pub Turn : Type 0 → Type 0 → Type 0 → Type 0
+Turn V M P = List V → Back V M P → World M → Run P
+
 -- what comes after a turn of a loop that goes back at most d times more: where it goes back, that is a unit
-abbrev pub again : {V M P : Type 0} → (d : ℕ) → (turn : List V → Back V M P → World M → Run P) → (after : Back V M P) → Back V M P
+abbrev pub again : {V M P : Type 0} → (d : ℕ) → (turn : Turn V M P) → (after : Back V M P) → Back V M P
 again zero turn after (Again s) w = halted w
 again (suc d) turn after (Again s) w = unit (told w Running) (turn s (again d turn after) w)
 again zero turn after (Left s) w = after (Left s) w
