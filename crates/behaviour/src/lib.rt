@@ -28,12 +28,14 @@ pub fn a_greater_number_allows()
 
 /// Following composes.
 pub fn following_composes()
-    ensures { (k l : ℕ) (a b c : Behaviour) → Follows k a b → Follows l b c → Follows (k * (l + 1)) a c }
+    ensures { (k l : ℕ) (a b c : Behaviour) → Follows k a b → Follows l b c
+        → Follows (k * (l + 1)) a c }
 {}
 
 /// Of two runs, the way back follows from the way forth and from progress.
 pub fn back_is_free()
-    ensures { (k : ℕ) (a b : Behaviour) → IsRun a → IsRun b → Progress a b → Forth k a b → Follows k a b }
+    ensures { (k : ℕ) (a b : Behaviour) → IsRun a → IsRun b → Progress a b → Forth k a b
+        → Follows k a b }
 {}
 
 /// Of two runs, the way back follows from a way forth that takes a step for each unit.

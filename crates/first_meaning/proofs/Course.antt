@@ -11,7 +11,8 @@ use Rattle.first_form.specs.declared.program.PutcharArgument.{PutcharArgument}
 use Rattle.work.specs.Units.{unit}
 use Rattle.work.specs.Work.{Returned, Work, Over, Do, Call, Running, Stopped, Limited, Counted, EndsRun}
 use Rattle.work.specs.Run.{World, told, Run, over, does, Back, with_memory, result_of, whole, seen}
-use Rattle.work.proofs.Whole.{free, free_do, through, free_call, from, whole_is, unit_same}
+use Rattle.work.specs.Whole.{free, through, from}
+use Rattle.work.proofs.Whole.{free_do, free_call, whole_is, unit_same}
 use Rattle.first_meaning.specs.Charges.{main_tokens, function_tokens, frame, charge}
 use Rattle.first_meaning.specs.Joint.{Act, Make, Finish, Putchar, Give, Charged, leave, rules_of, byte_of, put_all, body, function, call_all, main, joint}
 use Rattle.first_meaning.specs.Units.{put_units, call_units, units_of, seen_until, seen_of_units, FitsIn, Course, course_of_calls, course_of}

@@ -1,6 +1,7 @@
 pub mod Laws
 pub mod Depth
 pub mod Whole
+pub mod Steps
 pub mod Settles
 pub mod Same
 pub mod Sheds

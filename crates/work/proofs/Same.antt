@@ -1,14 +1,10 @@
 -- How one behaviour is shown to do what another does, step by step: all the arithmetic of prices is here.
 use Rattle.std.proofs.Common.{◌≡◌, ℕ, zero, suc, ◌+◌, ◌*◌, ◌≤◌, refl, sym, ap, ◌∙◌, arith, inl, inr, ⊎_elim}
-use Rattle.std.specs.Prelude.{◌≢◌, ◌⊎◌}
+use Rattle.std.specs.Prelude.{◌≢◌, ◌⊎◌, Option, Some, None}
 use Rattle.behaviour.specs.Behaviour.{Wrong, Seen, Behaviour}
 use Rattle.behaviour.specs.Follows.{Follows}
-use Rattle.work.specs.Units.{unit, ended}
+use Rattle.work.specs.Units.{unit, ended, with_value}
 use Rattle.work.specs.Same.{ForthAt, BackAt, Same, Ready}
-
--- n units are seen and then wrong
-abbrev pub wrongly : Seen → Seen
-wrongly s = record { output = s.output; taken = s.taken; ending = Wrong }
 
 module _ (K : ℕ) (some : 1 ≤ K) where
   -- fewer units
@@ -106,6 +102,12 @@ module _ (K : ℕ) (some : 1 ≤ K) where
       back : (j : ℕ) → j ≤ n → BackAt (ended now end) b j
       back zero h = inr (0, omega arith, sym e0)
       back (suc j) h = inl (1, omega arith, w)
+
+  -- goes on with a value, or is wrong
+  pub valued : {A : Type 0} (p n : ℕ) (now end : Seen) (o : Option A) (go : A → Behaviour) (b : Behaviour) → end.ending ≡ Wrong → b 0 ≡ now
+      → ((v : A) → o ≡ Some v → Same K p n (go v) b) → Same K p n (with_value o (ended now end) go) b
+  valued p n now end None go b w e0 s = wrong p n now end b w e0
+  valued p n now end (Some v) go b w e0 s = s v refl
 
   -- no unit is left
   pub nothing_yet : (p : ℕ) (a b : Behaviour) → b 0 ≡ a 0 → Same K p 0 a b

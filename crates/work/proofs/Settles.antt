@@ -4,7 +4,8 @@ use Rattle.std.specs.Prelude.{Option, Some, None}
 use Rattle.work.specs.Units.{unit}
 use Rattle.work.specs.Work.{Outcome, Again, Left, Returned, Work, Over, Do, Call, Loop, Procedure, Running, Deed, Quiet, Counted, GivesByte, TakesByte, EndsRun, Rules}
 use Rattle.work.specs.Run.{World, told, Run, with_memory, gave, took, does, Back, Calls, Turn, again, run, result_of, entered, calls_of, begun, starting, within, whole}
-use Rattle.work.proofs.Whole.{free, free_do, around, free_loop, through, free_call, from, whole_is}
+use Rattle.work.specs.Whole.{free, around, through, from}
+use Rattle.work.proofs.Whole.{free_do, free_loop, free_call, whole_is}
 
 -- whatever the first shows, the second shows at some bound
 abbrev pub Settled : {S : Type 0} → (ℕ → S) → (ℕ → S) → Type 0

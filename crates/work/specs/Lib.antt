@@ -4,3 +4,5 @@ pub mod Run
 pub mod Doing
 pub mod Same
 pub mod Like
+pub mod Whole
+pub mod Steps
