@@ -1,8 +1,7 @@
 //! The outside in memory, which fails at the calls that it is told.
-ghost use Rattle.std.specs.Prelude.{◌≡◌, [], ◌+◌, ◌<◌, ◌↔◌, ◌⊎◌, Some, IfOk, IsSome, IsTrue, IsNone, Contains, length, option_copied};
+ghost use Rattle.std.specs.Prelude.{◌≡◌, [], ◌+◌, ◌++◌, ◌<◌, ◌↔◌, ◌⊎◌, Some, IfOk, IsSome, IsTrue, IsNone, Contains, length, option_copied};
 ghost use Rattle.jf_outside.specs.Answers.{TakenCounts, EndsAt, taken_bytes, faults_after_next, PutCounts, PutLeaves, faults_after_put, held_after_put};
-ghost use Rattle.jf_outside.specs.Contents.{before_left};
-ghost use Rattle.jf_outside.specs.Count.{counted};
+ghost use Rattle.jf_outside.specs.Count.{Rose, counted};
 ghost use Rattle.jf_outside.specs.Listing.{listed, ReadCounts, ReadGives, faults_after_read, strays_after_read};
 ghost use Rattle.jf_outside.specs.Files.{file_list};
 
@@ -11,11 +10,42 @@ use jf_base::Memory;
 use std::alloc::Global;
 use std::marker::Model;
 
-// Whether this call is one of those that fail.
-fn fails(failing: &[u64], call: u64) -> bool
-    ensures { IsTrue result ↔ Contains failing.now call }
-{
-    failing.contains(&call)
+// How often an object was called, which of its calls fail, and how often it has failed.
+#[derive(Drop)]
+struct Calls {
+    made: u64,
+    failing: Vec<u64>,
+    faults: u64,
+}
+
+impl Calls {
+    fn new(failing: Vec<u64>) -> Calls
+        ensures { result ≡ record { made = 0; failing = failing; faults = 0 } }
+    {
+        Calls {
+            made: 0,
+            failing,
+            faults: 0,
+        }
+    }
+
+    // Counts a call, and says whether it is one of those that fail.
+    fn is_next_listed(&mut self) -> bool
+        ensures listed { IsTrue result ↔ Contains self.old.failing.items self.old.made }
+        ensures counted { self.new ≡ record self.old { made = counted self.old.made } }
+    {
+        let call = self.made;
+        self.made = call.saturating_add(1);
+        self.failing.contains(&call)
+    }
+
+    // Counts a fault.
+    fn fail(&mut self)
+        ensures faults { self.new ≡ record self.old { faults = counted self.old.faults } }
+        ensures rose { Rose self.old.faults self.new.faults }
+    {
+        self.faults = self.faults.saturating_add(1);
+    }
 }
 
 /// A source over bytes in memory.
@@ -23,9 +53,7 @@ fn fails(failing: &[u64], call: u64) -> bool
 pub struct MemorySource {
     bytes: Vec<u8>,
     at: usize,
-    calls: u64,
-    failing: Vec<u64>,
-    faults: u64,
+    calls: Calls,
 }
 
 impl Model for MemorySource {
@@ -34,7 +62,7 @@ impl Model for MemorySource {
 
     ghost Value = { SourceState };
 
-    ghost view = { λ s. record { left = drop s.at s.bytes.items; calls = s.calls; failing = s.failing.items; faults = s.faults } };
+    ghost view = { λ s. record { left = drop s.at s.bytes.items; calls = s.calls.made; failing = s.calls.failing.items; faults = s.calls.faults } };
 }
 
 impl MemorySource {
@@ -45,9 +73,7 @@ impl MemorySource {
         MemorySource {
             bytes,
             at: 0,
-            calls: 0,
-            failing,
-            faults: 0,
+            calls: Calls::new(failing),
         }
     }
 }
@@ -59,7 +85,7 @@ impl Source for MemorySource {
 
     fn next(&mut self) -> Taken
         ensures cause { TakenCounts result self.old.faults self.new.faults }
-        ensures bytes { Some self.old.left ≡ before_left (taken_bytes result) (Some self.new.left) }
+        ensures bytes { self.old.left ≡ taken_bytes result ++ self.new.left }
         ensures end { EndsAt result (Some self.new.left) }
 
         // It fails exactly at the calls that are listed.
@@ -68,10 +94,8 @@ impl Source for MemorySource {
         ensures failing { self.new.failing ≡ self.old.failing }
         ensures faults { self.new.faults ≡ faults_after_next result self.old.faults }
     {
-        let call = self.calls;
-        self.calls = call.saturating_add(1);
-        if fails(&self.failing, call) {
-            self.faults = self.faults.saturating_add(1);
+        if self.calls.is_next_listed() {
+            self.calls.fail();
             return Taken::Failed;
         }
         if self.at < self.bytes.len() {
@@ -89,9 +113,7 @@ impl Source for MemorySource {
 pub struct MemorySink {
     held: Vec<u8>,
     room: usize,
-    calls: u64,
-    failing: Vec<u64>,
-    faults: u64,
+    calls: Calls,
 }
 
 impl Model for MemorySink {
@@ -101,7 +123,7 @@ impl Model for MemorySink {
 
     ghost Value = { SinkState };
 
-    ghost view = { λ s. record { contents = s.held.items; room = s.room; calls = s.calls; failing = s.failing.items; faults = s.faults } };
+    ghost view = { λ s. record { contents = s.held.items; room = s.room; calls = s.calls.made; failing = s.calls.failing.items; faults = s.calls.faults } };
 
     ghost invariant = { λ s. (vec_len s.held ≤ s.room) × (s.room ≤ vec_capacity s.held) };
 }
@@ -111,13 +133,10 @@ impl MemorySink {
     pub fn new(alloc: Global, room: usize, failing: Vec<u64>) -> Result<MemorySink, Memory>
         ensures { IfOk result (λ sink. sink ≡ record { contents = []; room = room; calls = 0; failing = failing.items; faults = 0 }) }
     {
-        let held = Vec::with_capacity(alloc, room)?;
         Ok(MemorySink {
-            held,
+            held: Vec::with_capacity(alloc, room)?,
             room,
-            calls: 0,
-            failing,
-            faults: 0,
+            calls: Calls::new(failing),
         })
     }
 
@@ -146,16 +165,14 @@ impl Sink for MemorySink {
         ensures failing { self.new.failing ≡ self.old.failing }
         ensures faults { self.new.faults ≡ faults_after_put result self.old.faults }
     {
-        let call = self.calls;
-        self.calls = call.saturating_add(1);
-        if fails(&self.failing, call) || self.room - self.held.len() < piece.len() {
-            self.faults = self.faults.saturating_add(1);
+        if self.calls.is_next_listed() || self.room - self.held.len() < piece.len() {
+            self.calls.fail();
             return Put::Failed;
         }
         match self.held.extend_from_slice(piece) {
             Ok(()) => Put::Done,
             Err(_) => {
-                self.faults = self.faults.saturating_add(1);
+                self.calls.fail();
                 Put::Failed
             }
         }
@@ -166,9 +183,7 @@ impl Sink for MemorySink {
 #[derive(Drop)]
 pub struct MemoryLibrary {
     files: Vec<(String, Vec<u8>)>,
-    calls: u64,
-    failing: Vec<u64>,
-    faults: u64,
+    calls: Calls,
     strays: u64,
 }
 
@@ -178,7 +193,7 @@ impl Model for MemoryLibrary {
 
     ghost Value = { LibraryState };
 
-    ghost view = { λ l. record { files = file_list l.files.items; calls = l.calls; failing = l.failing.items; faults = l.faults; strays = l.strays } };
+    ghost view = { λ l. record { files = file_list l.files.items; calls = l.calls.made; failing = l.calls.failing.items; faults = l.calls.faults; strays = l.strays } };
 }
 
 impl MemoryLibrary {
@@ -188,9 +203,7 @@ impl MemoryLibrary {
     {
         MemoryLibrary {
             files,
-            calls: 0,
-            failing,
-            faults: 0,
+            calls: Calls::new(failing),
             strays: 0,
         }
     }
@@ -216,7 +229,7 @@ impl Library for MemoryLibrary {
     ghost faults = { λ l. l.faults };
 
     fn read(&mut self, alloc: Global, name: &str) -> Result<Vec<u8>, LibraryFault>
-        ensures files { Some self.new.files ≡ Some self.old.files }
+        ensures files { self.new.files ≡ self.old.files }
         ensures cause { ReadCounts result self.old.faults self.new.faults }
         ensures bytes { ReadGives (listed self.old.files name.now) result self.old.strays self.new.strays }
 
@@ -228,12 +241,11 @@ impl Library for MemoryLibrary {
         ensures faults { self.new.faults ≡ faults_after_read result self.old.faults }
         ensures strays { self.new.strays ≡ strays_after_read (listed self.old.files name.now) self.old.strays }
     {
-        let call = self.calls;
-        self.calls = call.saturating_add(1);
+        let is_listed = self.calls.is_next_listed();
         match find(&self.files, name) {
             Some(bytes) => {
-                if fails(&self.failing, call) {
-                    self.faults = self.faults.saturating_add(1);
+                if is_listed {
+                    self.calls.fail();
                     return Err(LibraryFault::Failed);
                 }
                 match bytes.to_vec(alloc) {
@@ -243,9 +255,70 @@ impl Library for MemoryLibrary {
             }
             None => {
                 self.strays = self.strays.saturating_add(1);
-                self.faults = self.faults.saturating_add(1);
+                self.calls.fail();
                 Err(LibraryFault::Failed)
             }
         }
+    }
+}
+
+#[cfg(test)]
+mod tests {
+    use super::*;
+    use std::test::Fail;
+
+    #[test]
+    fn fails_at_the_listed_calls(rt: HostRuntime) -> Result<(), Fail> {
+        let bytes = b"ab".to_vec(rt.alloc())?;
+        let mut source = MemorySource::new(bytes, [1, 3].to_vec(rt.alloc())?);
+        for (call, want) in [
+            Taken::Byte(b'a'),
+            Taken::Failed,
+            Taken::Byte(b'b'),
+            Taken::Failed,
+            Taken::End,
+            Taken::End,
+        ]
+        .iter()
+        .enumerate()
+        {
+            assert_eq!(rt; source.next(), *want, "at call {call}");
+        }
+
+        let mut sink = MemorySink::new(rt.alloc(), 4, [1].to_vec(rt.alloc())?)?;
+        assert_eq!(rt; sink.put(b"abc"), Put::Done);
+        assert_eq!(rt; sink.put(b"d"), Put::Failed);
+        assert_eq!(rt; sink.put(b"de"), Put::Failed);
+        assert_eq!(rt; sink.held(), b"abc".as_slice());
+        assert_eq!(rt; sink.put(b"e"), Put::Done);
+        assert_eq!(rt; sink.put(b""), Put::Done);
+        assert_eq!(rt; sink.held(), b"abce".as_slice());
+
+        let mut files = Vec::new(rt.alloc());
+        for (name, bytes) in [("a.c", b"1".as_slice()), ("b.c", b""), ("a.c", b"2")] {
+            files.push((
+                String::from_str(rt.alloc(), name)?,
+                bytes.to_vec(rt.alloc())?,
+            ))?;
+        }
+        let mut library = MemoryLibrary::new(files, [2].to_vec(rt.alloc())?);
+        for (call, (name, want)) in [
+            ("a.c", Ok(b"1".as_slice())),
+            ("c.c", Err(LibraryFault::Failed)),
+            ("a.c", Err(LibraryFault::Failed)),
+            ("a.c", Ok(b"1")),
+            ("b.c", Ok(b"")),
+        ]
+        .iter()
+        .enumerate()
+        {
+            let read = library.read(rt.alloc(), name);
+            assert_eq!(rt;
+                read.as_deref(),
+                want.as_ref().map(|bytes| *bytes),
+                "at call {call}"
+            );
+        }
+        Ok(())
     }
 }
