@@ -1,0 +1,45 @@
+ghost use Rattle.std.specs.Prelude.{◌≡◌, ◌≤◌, ◌↔◌, IsTrue, IfSome, IfNone, MatchOption, length, All};
+ghost use Rattle.command.specs.Number.{IsDigit, IsNumber, value_of};
+
+fn are_digits(word: &[u8]) -> bool
+    ensures { IsTrue result ↔ All IsDigit word.now }
+{
+    word.iter().all(|byte| *byte >= 48 && *byte <= 57)
+}
+
+fn is_number(word: &[u8]) -> bool
+    ensures { IsTrue result ↔ IsNumber word.now }
+{
+    if word.is_empty() || word.len() > 19 {
+        return false;
+    }
+    if word.len() > 1 && word[0] == b'0' {
+        return false;
+    }
+    are_digits(word)
+}
+
+fn value(digits: &[u8]) -> u64
+    requires few { length digits.now ≤ 19 }
+    requires digits { All IsDigit digits.now }
+    ensures { result ≡ value_of digits.now }
+{
+    let mut value = 0;
+    for digit in digits {
+        value = value * 10 + (*digit - 48) as u64;
+    }
+    value
+}
+
+/// The number that the word names: 1 to 19 decimal digits, with no 0 before another digit.
+pub fn number(word: &[u8]) -> Option<u64>
+    ensures none { IfNone result (IsNumber word.now → ⊥) }
+    ensures number { IfSome result (λ n. IsNumber word.now) }
+    ensures value { IfSome result (λ n. n ≡ value_of word.now) }
+{
+    if is_number(word) {
+        Some(value(word))
+    } else {
+        None
+    }
+}
