@@ -1,5 +1,5 @@
 -- Words say one command at most.
-use Rattle.std.proofs.Common.{◌≡◌, ◌∙◌, ℕ, List, [], ◌∷◌, Option, Some, None, refl, ap, sym}
+use Rattle.std.proofs.Common.{◌≡◌, ◌∙◌, ℕ, List, [], ◌∷◌, Option, Some, None, ap, sym}
 use Rattle.std.specs.Prelude.{unwrap_or}
 use Rattle.jf_base.specs.declared.place.Limits.{Limits}
 use Rattle.command.specs.declared.words.Command.{Command}

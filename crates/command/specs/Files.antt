@@ -1,5 +1,5 @@
 -- The names of files among the words behind the command.
-use Rattle.std.specs.Prelude.{◌≢◌, ℕ, ◌≤◌, ◌⊎◌, Bool, not, IsTrue, List, codes, filter, length, nat_eq, All, AllPairs}
+use Rattle.std.specs.Prelude.{◌≢◌, ℕ, ◌≤◌, ◌⊎◌, not, IsTrue, List, codes, filter, length, nat_eq, All, AllPairs}
 use Rattle.std.specs.List.{ends_with}
 use Rattle.command.specs.Options.{is_option}
 

@@ -1,5 +1,5 @@
 -- The options among the words behind the command.
-use Rattle.std.specs.Prelude.{◌≡◌, ℕ, ◌≤◌, Bool, not, ◌||◌, List, [], ◌∷◌, Option, Some, None, IsSomeAnd, unwrap_or, codes, filter, drop, length, nat_eq}
+use Rattle.std.specs.Prelude.{◌≡◌, ℕ, ◌≤◌, Bool, not, ◌||◌, List, [], ◌∷◌, Option, None, IsSomeAnd, unwrap_or, codes, filter, drop, length, nat_eq}
 use Rattle.std.specs.List.{starts_with, list_any, list_all}
 use Rattle.command.specs.Number.{IsNumber, value_of}
 

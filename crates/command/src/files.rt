@@ -31,7 +31,9 @@ fn is_file_name(name: &[u8]) -> bool
 fn are_file_names(names: &[Text]) -> bool
     ensures { IsTrue result ↔ All IsFileName names.now }
 {
-    names.iter().all(|name| is_file_name(name.as_str().as_bytes()))
+    names
+        .iter()
+        .all(|name| is_file_name(name.as_str().as_bytes()))
 }
 
 fn are_different(names: &[Text]) -> bool

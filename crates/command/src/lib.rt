@@ -4,6 +4,8 @@
 mod files;
 mod number;
 mod options;
+#[cfg(test)]
+mod tests;
 mod words;
 
-pub use words::{Command, RunWords, read_words};
+pub use words::{Command, RunWords, command_of_words_is_unique, read_words};

@@ -45,8 +45,8 @@ fn is_set(words: &[String], name: &[u8]) -> bool
     false
 }
 
-// What the words say of this option: None where it is set twice, or not to a number.
-fn said(words: &[String], name: &[u8]) -> Option<Option<u64>>
+// What the words set this option to, if they do. None where it is set twice, or not to a number.
+fn setting(words: &[String], name: &[u8]) -> Option<Option<u64>>
     ensures none { IfNone result ((said : Option ℕ) → SaysNumber (length name.now) (settings name.now (texts words.now)) said → ⊥) }
     ensures says { IfSome result (λ said. SaysNumber (length name.now) (settings name.now (texts words.now)) said) }
 {
@@ -70,7 +70,7 @@ pub fn steps(words: &[String]) -> Option<u64>
     ensures none { IfNone result ((steps : ℕ) → SaysSteps (texts words.now) steps → ⊥) }
     ensures says { IfSome result (λ steps. SaysSteps (texts words.now) steps) }
 {
-    let steps = said(words, &STEPS)?.unwrap_or(1_000_000_000);
+    let steps = setting(words, &STEPS)?.unwrap_or(1_000_000_000);
     if steps >= 1 && steps <= 1_000_000_000_000_000 {
         Some(steps)
     } else {

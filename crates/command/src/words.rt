@@ -9,13 +9,13 @@ use jf_base::{Limits, List, Memory, Text};
 use std::alloc::Global;
 
 /// A command with what its words name.
-#[derive(Debug, Drop)]
+#[derive(PartialEq, Eq, Debug, Drop)]
 pub enum Command {
     Run(RunWords),
 }
 
 /// The words of `run`: the limits of the run, and 1 to 64 different names of files in order.
-#[derive(Debug, Drop)]
+#[derive(PartialEq, Eq, Debug, Drop)]
 pub struct RunWords {
     pub limits: Limits,
     pub files: List<Text>,
@@ -58,5 +58,4 @@ pub fn read_words(alloc: Global, words: &[String]) -> Result<Option<Command>, Me
 /// The words are those of one command at most.
 pub fn command_of_words_is_unique()
     ensures { (words : List (List ℕ)) (one other : Command) → Says words one → Says words other → one ≡ other }
-{
-}
+{}

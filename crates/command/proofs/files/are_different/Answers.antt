@@ -1,4 +1,4 @@
-use Rattle.std.proofs.Common.{◌<◌, subst, take_all, refl}
+use Rattle.std.proofs.Common.{subst, take_all, refl}
 use Rattle.command.proofs.Different.{Differ, found_before, not_before}
 use Rattle.command.proofs.files.are_different.Goals as goal
 

@@ -1,11 +1,11 @@
-use Rattle.std.proofs.Common.{◌≡◌, ◌∙◌, ℕ, ◌+◌, ◌-◌, Bool, true, false, List, [], ◌∷◌, Option, Some, ap, sym, subst, take, drop, length, string_bytes}
+use Rattle.std.proofs.Common.{◌≡◌, ◌∙◌, ℕ, ◌+◌, ◌-◌, Bool, true, false, List, [], ◌∷◌, Some, ap, sym, subst, take, drop, length, string_bytes}
 use Rattle.std.specs.Prelude.{nat_eq}
 use Rattle.std.specs.List.{starts_with, list_any}
 use Rattle.command.specs.Number.{IsNumber, value_of}
 use Rattle.command.specs.Options.{settings, SaysNumber}
 use Rattle.command.specs.Words.{texts}
 use Rattle.command.proofs.Settings.{set_twice, set_once, rest_of, texts_from}
-use Rattle.command.proofs.options.said.Goals as goal
+use Rattle.command.proofs.options.setting.Goals as goal
 
 pub returns-then-is_set-clause-none : goal.returns-then-is_set-clause-none
 returns-then-is_set-clause-none c said says =
