@@ -7,10 +7,11 @@ use Rattle.command.specs.Number.{IsNumber, value_of}
 abbrev pub is_option : List ℕ → Bool
 is_option word = starts_with nat_eq word (codes "-")
 
--- the names of the options of `run`, each with the `=` before its number
+-- the option that sets the limit on steps, up to its number
 abbrev pub steps_name : List ℕ
 steps_name = codes "--steps="
 
+-- the names of the options of `run`, each with the `=` before its number
 abbrev pub run_options : List (List ℕ)
 run_options = steps_name ∷ []
 

@@ -1,10 +1,10 @@
-ghost use Rattle.std.specs.Prelude.{◌≡◌, ◌≤◌, ◌↔◌, IsTrue, IfSome, IfNone, MatchOption, length, All};
+ghost use Rattle.std.specs.Prelude.{◌≡◌, ◌≤◌, ◌↔◌, IsTrue, IfSome, IfNone, length, All};
 ghost use Rattle.command.specs.Number.{IsDigit, IsNumber, value_of};
 
 fn are_digits(word: &[u8]) -> bool
     ensures { IsTrue result ↔ All IsDigit word.now }
 {
-    word.iter().all(|byte| *byte >= 48 && *byte <= 57)
+    word.iter().all(|byte| byte.is_ascii_digit())
 }
 
 fn is_number(word: &[u8]) -> bool
@@ -19,6 +19,7 @@ fn is_number(word: &[u8]) -> bool
     are_digits(word)
 }
 
+// The number that the digits name.
 fn value(digits: &[u8]) -> u64
     requires few { length digits.now ≤ 19 }
     requires digits { All IsDigit digits.now }
@@ -26,7 +27,7 @@ fn value(digits: &[u8]) -> u64
 {
     let mut value = 0;
     for digit in digits {
-        value = value * 10 + (*digit - 48) as u64;
+        value = value * 10 + (*digit - b'0') as u64;
     }
     value
 }
