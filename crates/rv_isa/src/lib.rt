@@ -2,9 +2,12 @@
 #![tactic(auto)]
 
 mod decoding;
+mod encoding;
 mod fields;
+mod formats;
 mod insn;
 mod rows;
 
 pub use decoding::decode;
+pub use encoding::encode;
 pub use insn::Insn;
