@@ -4,14 +4,9 @@ use Rattle.std.specs.Prelude.{Option, Some, None}
 use Rattle.std.proofs.lemmas.Bool.{eqb-true}
 use Rattle.rv_isa.specs.declared.insn.Insn.{Insn}
 use Rattle.rv_isa.specs.declared.insn.Insn.TheVariants.{Lui, Auipc, Jal, Jalr, Beq, Bne, Blt, Bge, Bltu, Bgeu, Lb, Lh, Lw, Ld, Lbu, Lhu, Lwu, Sb, Sh, Sw, Sd, Addi, Slti, Sltiu, Xori, Ori, Andi, Slli, Srli, Srai, Addiw, Slliw, Srliw, Sraiw, Add, Sub, Sll, Slt, Sltu, Xor, Srl, Sra, Or, And, Mul, Mulh, Mulhsu, Mulhu, Div, Divu, Rem, Remu, Addw, Subw, Sllw, Srlw, Sraw, Mulw, Divw, Divuw, Remw, Remuw, Fence, Ecall, Ebreak}
-use Rattle.rv_isa.specs.Encode.{IsEncodable, encode_of, register_word, immediate_word, shift_word, word_shift_word, store_word, branch_word, upper_word, jump_word}
+use Rattle.rv_isa.specs.Encode.{IsEncodable, HasWord, encode_of, register_word, immediate_word, shift_word, word_shift_word, store_word, branch_word, upper_word, jump_word}
 use Rattle.rv_isa.specs.Decode.{opcode_of, rd_of, funct3_of, rs1_of, rs2_of, amount_of, funct6_of, funct7_of, immediate_of, store_offset_of, branch_offset_of, upper_of, jump_offset_of, jump_register_of, branch_of, load_of, store_of, shift_of, immediate_insn_of, word_shift_of, word_immediate_of, base_of, alternate_of, product_of, register_insn_of, word_base_of, word_alternate_of, word_product_of, word_register_insn_of, whole_word_of, insn_by_fields, decode_of}
 use Rattle.rv_isa.proofs.Back.{upper-operands, upper-encodes, jump-operands, jump-encodes, immediate-operands, immediate-encodes, branch-operands, branch-encodes, store-operands, store-encodes, shift-operands, shift-encodes, word_shift-operands, word_shift-encodes, register-operands, register-encodes}
-
--- the instruction can be encoded and has this word
-pub record HasWord (w : ℕ) (i : Insn) : Type 0 where
-  pub encodable : IsEncodable i
-  pub word : encode_of i ≡ w
 
 -- where there is an instruction, it has this word
 pub record Kept (w : ℕ) (o : Option Insn) : Type 0 where
@@ -189,7 +184,7 @@ whole w =
     choice w _ 0x00100073 _ _ (λ e. row w Ebreak tt (sym e)) (
     nothing w)))
 
-decoded : (w : ℕ) → w < 2 ^ 32 → Kept w (decode_of w)
+pub decoded : (w : ℕ) → w < 2 ^ 32 → Kept w (decode_of w)
 unfolding decode_of insn_by_fields encode_of
 decoded w h =
     choice w _ 0x37 _ _ (λ ho. row w (Lui (rd_of w) (upper_of w)) (upper-operands w 0x37 h ho) (upper-encodes w 0x37 h ho)) (
@@ -204,7 +199,3 @@ decoded w h =
     choice w _ 0x33 _ _ (λ ho. register_insn w h ho) (
     choice w _ 0x3b _ _ (λ ho. word_register_insn w h ho) (
     whole w)))))))))))
-
--- a word decodes only to an instruction that can be encoded and has this word
-pub decode-encode : (w : ℕ) (i : Insn) → w < 2 ^ 32 → decode_of w ≡ Some i → HasWord w i
-decode-encode w i h e = (decoded w h).kept i e

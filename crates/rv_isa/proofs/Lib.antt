@@ -3,3 +3,4 @@ pub mod WordsOf
 pub mod Back
 pub mod Forth
 pub mod Kept
+pub mod Laws

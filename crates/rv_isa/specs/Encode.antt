@@ -1,6 +1,6 @@
 -- The words of instructions: the RISC-V unprivileged specification, sections 2.2 and 2.3 (formats and immediates), and its listings of RV64I and RV64M.
 -- A field of a format is written with the place of its lowest bit; opcode, funct3, funct6 and funct7 are the fixed fields of a row.
-use Rattle.std.specs.Prelude.{ℕ, ◌≡◌, ◌<◌, ◌≤◌, ◌⊎◌, ◌+◌, ◌-◌, ◌*◌, ◌/◌, ◌%◌, ◌^◌}
+use Rattle.std.specs.Prelude.{ℕ, ◌≡◌, ◌<◌, ◌+◌, ◌-◌, ◌*◌, ◌/◌, ◌%◌, ◌^◌}
 use Rattle.rv_isa.specs.declared.insn.Insn.{Insn}
 use Rattle.rv_isa.specs.declared.insn.Insn.TheVariants.{Lui, Auipc, Jal, Jalr, Beq, Bne, Blt, Bge, Bltu, Bgeu, Lb, Lh, Lw, Ld, Lbu, Lhu, Lwu, Sb, Sh, Sw, Sd, Addi, Slti, Sltiu, Xori, Ori, Andi, Slli, Srli, Srai, Addiw, Slliw, Srliw, Sraiw, Add, Sub, Sll, Slt, Sltu, Xor, Srl, Sra, Or, And, Mul, Mulh, Mulhsu, Mulhu, Div, Divu, Rem, Remu, Addw, Subw, Sllw, Srlw, Sraw, Mulw, Divw, Divuw, Remw, Remuw, Fence, Ecall, Ebreak}
 
@@ -209,3 +209,8 @@ IsEncodable (Remuw rd rs1 rs2) = AreRegisterOperands rd rs1 rs2
 IsEncodable Fence = Unit {0}
 IsEncodable Ecall = Unit {0}
 IsEncodable Ebreak = Unit {0}
+
+-- the instruction can be encoded, and this is its word
+pub record HasWord (w : ℕ) (i : Insn) : Type 0 where
+  pub encodable : IsEncodable i
+  pub word : encode_of i ≡ w

@@ -6,8 +6,12 @@ mod encoding;
 mod fields;
 mod formats;
 mod insn;
+mod inverse;
 mod rows;
+#[cfg(test)]
+mod tests;
 
 pub use decoding::decode;
 pub use encoding::encode;
 pub use insn::Insn;
+pub use inverse::{decoded_encodes, encoded_decodes};
