@@ -1,6 +1,5 @@
 -- A word with a row's fixed fields is the word of the instruction that its other fields give.
-use Rattle.std.proofs.Common.{◌≡◌, ℕ, ◌+◌, ◌-◌, ◌*◌, ◌/◌, ◌%◌, ◌^◌, ◌<◌, ◌≤◌, ◌==◌, arith, refl, sym, ap, ◌∙◌, if◌then◌else◌, true, false}
-use Rattle.std.specs.Prelude.{nat_lt}
+use Rattle.std.proofs.Common.{◌≡◌, ℕ, ◌+◌, ◌*◌, ◌/◌, ◌%◌, ◌^◌, ◌<◌, arith}
 use Rattle.std.proofs.lemmas.Bool.Decides.{nat_tests}
 use Rattle.rv_isa.specs.Encode.{IsSigned, register_word, immediate_word, shift_word, word_shift_word, store_word, branch_word, upper_word, jump_word, AreRegisterOperands, AreImmediateOperands, AreShiftOperands, AreWordShiftOperands, AreStoreOperands, AreBranchOperands, AreUpperOperands, AreJumpOperands}
 use Rattle.rv_isa.specs.Decode.{opcode_of, rd_of, funct3_of, rs1_of, rs2_of, amount_of, funct6_of, funct7_of, extended, immediate_of, store_offset_of, branch_offset_of, upper_of, jump_offset_of}

@@ -1,11 +1,10 @@
 -- Coding and decoding are inverse to each other: on the instructions that can be encoded, and on the words that decode.
-use Rattle.std.proofs.Common.{◌≡◌, ℕ, ◌+◌, ◌*◌, ◌/◌, ◌%◌, ◌^◌, ◌<◌, ◌==◌, Bool, true, false, arith, refl, sym, ap, ◌∙◌, if◌then◌else◌, lit<}
-use Rattle.std.specs.Prelude.{Option, Some, None}
-use Rattle.std.proofs.lemmas.Bool.{eqb-true}
+use Rattle.std.proofs.Common.{◌≡◌, ◌^◌, ◌<◌, arith, refl, lit<}
+use Rattle.std.specs.Prelude.{Some}
 use Rattle.rv_isa.specs.declared.insn.Insn.{Insn}
 use Rattle.rv_isa.specs.declared.insn.Insn.TheVariants.{Lui, Auipc, Jal, Jalr, Beq, Bne, Blt, Bge, Bltu, Bgeu, Lb, Lh, Lw, Ld, Lbu, Lhu, Lwu, Sb, Sh, Sw, Sd, Addi, Slti, Sltiu, Xori, Ori, Andi, Slli, Srli, Srai, Addiw, Slliw, Srliw, Sraiw, Add, Sub, Sll, Slt, Sltu, Xor, Srl, Sra, Or, And, Mul, Mulh, Mulhsu, Mulhu, Div, Divu, Rem, Remu, Addw, Subw, Sllw, Srlw, Sraw, Mulw, Divw, Divuw, Remw, Remuw, Fence, Ecall, Ebreak}
-use Rattle.rv_isa.specs.Encode.{IsEncodable, encode_of, register_word, immediate_word, shift_word, word_shift_word, store_word, branch_word, upper_word, jump_word}
-use Rattle.rv_isa.specs.Decode.{opcode_of, rd_of, funct3_of, rs1_of, rs2_of, amount_of, funct6_of, funct7_of, immediate_of, store_offset_of, branch_offset_of, upper_of, jump_offset_of, jump_register_of, branch_of, load_of, store_of, shift_of, immediate_insn_of, word_shift_of, word_immediate_of, base_of, alternate_of, product_of, register_insn_of, word_base_of, word_alternate_of, word_product_of, word_register_insn_of, whole_word_of, insn_by_fields, decode_of}
+use Rattle.rv_isa.specs.Encode.{IsEncodable, encode_of}
+use Rattle.rv_isa.specs.Decode.{jump_register_of, branch_of, load_of, store_of, shift_of, immediate_insn_of, word_shift_of, word_immediate_of, base_of, alternate_of, product_of, register_insn_of, word_base_of, word_alternate_of, word_product_of, word_register_insn_of, whole_word_of, insn_by_fields, decode_of}
 use Rattle.rv_isa.proofs.WordsOf.{upper-decodes, jump-decodes, immediate-decodes, branch-decodes, store-decodes, shift-decodes, word_shift-decodes, register-decodes}
 
 -- each instruction that can be encoded is that of its word

@@ -1,10 +1,10 @@
 -- A word that decodes is the word of what it decodes to, which can be encoded.
-use Rattle.std.proofs.Common.{◌≡◌, ℕ, ◌+◌, ◌*◌, ◌/◌, ◌%◌, ◌^◌, ◌<◌, ◌==◌, Bool, true, false, arith, refl, sym, ap, subst, ◌∙◌, if◌then◌else◌, lit<}
+use Rattle.std.proofs.Common.{◌≡◌, ℕ, ◌^◌, ◌<◌, ◌==◌, Bool, true, false, refl, sym, subst, if◌then◌else◌}
 use Rattle.std.specs.Prelude.{Option, Some, None}
 use Rattle.std.proofs.lemmas.Bool.{eqb-true}
 use Rattle.rv_isa.specs.declared.insn.Insn.{Insn}
 use Rattle.rv_isa.specs.declared.insn.Insn.TheVariants.{Lui, Auipc, Jal, Jalr, Beq, Bne, Blt, Bge, Bltu, Bgeu, Lb, Lh, Lw, Ld, Lbu, Lhu, Lwu, Sb, Sh, Sw, Sd, Addi, Slti, Sltiu, Xori, Ori, Andi, Slli, Srli, Srai, Addiw, Slliw, Srliw, Sraiw, Add, Sub, Sll, Slt, Sltu, Xor, Srl, Sra, Or, And, Mul, Mulh, Mulhsu, Mulhu, Div, Divu, Rem, Remu, Addw, Subw, Sllw, Srlw, Sraw, Mulw, Divw, Divuw, Remw, Remuw, Fence, Ecall, Ebreak}
-use Rattle.rv_isa.specs.Encode.{IsEncodable, HasWord, encode_of, register_word, immediate_word, shift_word, word_shift_word, store_word, branch_word, upper_word, jump_word}
+use Rattle.rv_isa.specs.Encode.{IsEncodable, HasWord, encode_of}
 use Rattle.rv_isa.specs.Decode.{opcode_of, rd_of, funct3_of, rs1_of, rs2_of, amount_of, funct6_of, funct7_of, immediate_of, store_offset_of, branch_offset_of, upper_of, jump_offset_of, jump_register_of, branch_of, load_of, store_of, shift_of, immediate_insn_of, word_shift_of, word_immediate_of, base_of, alternate_of, product_of, register_insn_of, word_base_of, word_alternate_of, word_product_of, word_register_insn_of, whole_word_of, insn_by_fields, decode_of}
 use Rattle.rv_isa.proofs.Back.{upper-operands, upper-encodes, jump-operands, jump-encodes, immediate-operands, immediate-encodes, branch-operands, branch-encodes, store-operands, store-encodes, shift-operands, shift-encodes, word_shift-operands, word_shift-encodes, register-operands, register-encodes}
 

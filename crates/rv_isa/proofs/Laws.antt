@@ -1,6 +1,6 @@
 -- Coding and decoding are inverse to each other, on the instructions that can be encoded and on the words that decode.
 use Rattle.std.proofs.Common.{◌≡◌, ℕ, ◌^◌, ◌<◌, subst}
-use Rattle.std.specs.Prelude.{Option, Some}
+use Rattle.std.specs.Prelude.{Some}
 use Rattle.rv_isa.specs.declared.insn.Insn.{Insn}
 use Rattle.rv_isa.specs.Encode.{IsEncodable, encode_of, HasWord}
 use Rattle.rv_isa.specs.Decode.{decode_of}

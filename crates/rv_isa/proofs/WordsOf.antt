@@ -1,9 +1,8 @@
 -- For each format: a word of it decodes to its row's instruction, and a word with the row's fixed fields is the word of what it decodes to.
-use Rattle.std.proofs.Common.{◌≡◌, ℕ, ◌+◌, ◌-◌, ◌*◌, ◌/◌, ◌%◌, ◌^◌, ◌<◌, ◌≤◌, ◌==◌, arith, refl, sym, ap, ◌∙◌, if◌then◌else◌, true, false}
-use Rattle.std.specs.Prelude.{nat_lt, Option, Some, None}
-use Rattle.std.proofs.lemmas.Bool.Decides.{nat_tests}
+use Rattle.std.proofs.Common.{◌≡◌, ℕ, ◌+◌, ◌*◌, ◌/◌, ◌%◌, ◌^◌, ◌<◌, arith, refl, ap, ◌∙◌}
+use Rattle.std.specs.Prelude.{Some}
 use Rattle.rv_isa.specs.declared.insn.Insn.{Insn}
-use Rattle.rv_isa.specs.Encode.{IsSigned, register_word, immediate_word, shift_word, word_shift_word, store_word, branch_word, upper_word, jump_word, AreRegisterOperands, AreImmediateOperands, AreShiftOperands, AreWordShiftOperands, AreStoreOperands, AreBranchOperands, AreUpperOperands, AreJumpOperands}
+use Rattle.rv_isa.specs.Encode.{register_word, immediate_word, shift_word, word_shift_word, store_word, branch_word, upper_word, jump_word, AreRegisterOperands, AreImmediateOperands, AreShiftOperands, AreWordShiftOperands, AreStoreOperands, AreBranchOperands, AreUpperOperands, AreJumpOperands}
 use Rattle.rv_isa.specs.Decode.{opcode_of, rd_of, funct3_of, rs1_of, rs2_of, amount_of, funct6_of, funct7_of, extended, immediate_of, store_offset_of, branch_offset_of, upper_of, jump_offset_of, insn_by_fields, decode_of}
 use Rattle.rv_isa.proofs.Extended.{extended-12, extended-13, extended-21, extended-32}
 
