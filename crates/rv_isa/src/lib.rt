@@ -2,5 +2,7 @@
 #![tactic(auto)]
 
 mod insn;
+mod words;
 
 pub use insn::Insn;
+pub use words::decode;

@@ -1,0 +1,6 @@
+pub mod State
+pub mod Alu
+pub mod Memory
+pub mod Step
+pub mod Loaded
+pub mod Exec

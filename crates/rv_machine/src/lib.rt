@@ -1,0 +1,10 @@
+//! A machine of RV64I with M (the RISC-V unprivileged specification) over its own memory.
+#![tactic(auto)]
+
+mod alu;
+mod event;
+mod machine;
+
+pub use event::{Event, Mode, TrapKind};
+pub use machine::{BASE, Machine};
+pub use program_image::Image;
