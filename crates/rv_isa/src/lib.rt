@@ -2,7 +2,5 @@
 #![tactic(auto)]
 
 mod insn;
-mod words;
 
 pub use insn::Insn;
-pub use words::decode;
