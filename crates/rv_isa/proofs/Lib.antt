@@ -1,0 +1,5 @@
+pub mod Extended
+pub mod WordsOf
+pub mod Back
+pub mod Forth
+pub mod Kept
