@@ -1,3 +1,5 @@
 pub mod Stores
 pub mod Divisions
 pub mod Products
+pub mod Laws
+pub mod Rows
