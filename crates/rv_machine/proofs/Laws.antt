@@ -1,5 +1,6 @@
 -- Laws of steps and of whole runs.
-use Rattle.std.proofs.Common.{◌≡◌, ◌≤◌, ℕ, zero, suc, ◌+◌, ◌-◌, ◌%◌, ◌^◌, List, [], ◌∷◌, Bool, true, ◌&&◌, nat_eq, nat_le, Option, Some, None, sym, ap, ◌∙◌, subst, inl, inr, arith, add-zero, add-suc}
+use Rattle.std.proofs.Common.{◌≡◌, ◌≤◌, ℕ, zero, suc, ◌+◌, ◌-◌, ◌%◌, ◌^◌, List, [], ◌∷◌, Bool, true, ◌&&◌, nat_eq, nat_le, Option, Some, None, Ok, sym, ap, ◌∙◌, subst, inl, inr, arith, add-zero, add-suc}
+use Rattle.std.specs.Option.{ok_or}
 use Rattle.std.proofs.lemmas.Bool.{cases_lt, le-leb, eq-eqb, and_from}
 use Rattle.rv_isa.specs.declared.insn.Insn.{Insn}
 use Rattle.rv_isa.specs.Decode.{decode_of}
@@ -9,9 +10,10 @@ use Rattle.rv_machine.specs.declared.event.Mode.{Mode}
 use Rattle.rv_machine.specs.declared.event.Mode.TheVariants as mode
 use Rattle.rv_machine.specs.declared.event.Event.{Event}
 use Rattle.rv_machine.specs.declared.event.Event.TheVariants as event
+use Rattle.rv_machine.specs.declared.event.TrapKind.TheVariants as trap
 use Rattle.rv_machine.specs.State.{State}
 use Rattle.rv_machine.specs.Memory.{number_at}
-use Rattle.rv_machine.specs.Step.{one, act, act_on, mode_after, settled, ready_step, step_in}
+use Rattle.rv_machine.specs.Step.{one, act, fetched, act_fetched, mode_after, settled, ready_step, step_in}
 use Rattle.rv_machine.specs.Exec.{Run, turn, turn_in, after, exec}
 
 -- what one instruction does to a run, by its event
@@ -81,13 +83,13 @@ pub record IsAtWord (s : State) (w : ℕ) : Type 0 where
 
 -- the instruction that the word is decoded to is done
 pub one_at_word : (s : State) (w : ℕ) (i : Insn) (g : Option ℕ) → IsAtWord s w → decode_of w ≡ Some i → one s g ≡ settled (act i s)
-unfolding one ready_step
+unfolding one fetched
 one_at_word s w i g at is =
     let whole : nat_eq (s.pc % 4) 0 ≡ true = eq-eqb _ _ at.here.whole in
     let inside : (nat_le 65536 s.pc && nat_le (s.pc + 4) (65536 + s.code)) ≡ true = and_from _ _ (le-leb _ _ at.here.low) (le-leb _ _ at.here.high) in
-    let fetched : ready_step s ≡ act_on (decode_of (number_at s.memory 4 (s.pc - 65536))) s = simp (whole, inside) in
-    let there : ready_step s ≡ act i s = fetched ∙ ap (λ w. act_on (decode_of w) s) at.here.word ∙ ap (λ o. act_on o s) is in
-    ap (λ m. step_in m s g) at.ready ∙ ap settled there
+    let here : fetched s ≡ ok_or (decode_of (number_at s.memory 4 (s.pc - 65536))) trap.Word = simp (whole, inside) in
+    let there : fetched s ≡ Ok i = here ∙ ap (λ w. ok_or (decode_of w) trap.Word) at.here.word ∙ ap (λ o. ok_or o trap.Word) is in
+    ap (λ m. step_in m s g) at.ready ∙ ap (λ f. settled (act_fetched f s)) there
 
 -- the instruction whose word it is is done
 pub one_at : (s : State) (i : Insn) (g : Option ℕ) → IsAtWord s (encode_of i) → IsEncodable i → one s g ≡ settled (act i s)

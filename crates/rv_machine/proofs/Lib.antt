@@ -3,3 +3,5 @@ pub mod Divisions
 pub mod Products
 pub mod Laws
 pub mod Rows
+pub mod Kept
+pub mod Fetch

@@ -1,5 +1,6 @@
 -- One instruction of the machine (the RISC-V unprivileged specification, chapters 2, 4 and 7), and the calls that its environment has.
 use Rattle.std.specs.Prelude.{ℕ, ◌+◌, ◌-◌, ◌*◌, ◌/◌, ◌%◌, ◌^◌, ◌==◌, nat_le, nat_lt, int_lt, Bool, true, false, not, ◌&&◌, if◌then◌else◌, bit_and, bit_or, bit_xor, List, length, Option, Some, None, Result, Ok, Err}
+use Rattle.std.specs.Option.{ok_or}
 use Rattle.std.specs.Int.{Width, w8, w16, w32, w64, byte_len, cast_signed}
 use Rattle.rv_isa.specs.declared.insn.Insn.{Insn}
 use Rattle.rv_isa.specs.declared.insn.Insn.TheVariants as insn
@@ -147,19 +148,22 @@ act insn.Fence s = go_on s event.Ran
 act insn.Ecall s = ecall s
 act insn.Ebreak s = trapped s trap.Break
 
--- what a word does
-abbrev pub act_on : Option Insn → State → State × Event
-act_on None s = trapped s trap.Word
-act_on (Some i) s = act i s
-
--- the word at the place is fetched from the code, and done
-unfoldable pub ready_step : State → State × Event
-ready_step s =
+-- the instruction at the place, which is a multiple of 4 and has its 4 bytes in the code
+unfoldable pub fetched : State → Result Insn TrapKind
+fetched s =
     if s.pc % 4 == 0
     then (if nat_le 65536 s.pc && nat_le (s.pc + 4) (65536 + s.code)
-    then act_on (decode_of (number_at s.memory 4 (s.pc - 65536))) s
-    else trapped s trap.Range)
-    else trapped s trap.Align
+    then ok_or (decode_of (number_at s.memory 4 (s.pc - 65536))) trap.Word
+    else Err trap.Range)
+    else Err trap.Align
+
+-- it is done
+abbrev pub act_fetched : Result Insn TrapKind → State → State × Event
+act_fetched (Ok i) s = act i s
+act_fetched (Err kind) s = trapped s kind
+
+abbrev pub ready_step : State → State × Event
+ready_step s = act_fetched (fetched s) s
 
 -- the byte that was asked for, or all ones at the end of the input
 abbrev pub answer : Option ℕ → ℕ

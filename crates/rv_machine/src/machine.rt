@@ -1,5 +1,6 @@
 //! The machine.
-ghost use Rattle.std.specs.Prelude.{◌≡◌, ◌≤◌, ◌<◌, ◌+◌, length};
+ghost use Rattle.std.specs.Prelude.{◌≡◌, ◌≤◌, ◌<◌, ◌+◌, ◌*◌, length, IfOk};
+ghost use Rattle.rv_machine.specs.Insns.{insns_of};
 ghost use Rattle.rv_machine.specs.Memory.{stored};
 ghost use Rattle.rv_machine.specs.Step.{mode_after};
 
@@ -9,7 +10,7 @@ use byteorder::{ByteOrder, LittleEndian};
 use jf_base::{Limits, Memory};
 use program_image::Image;
 use rv_isa::{Insn, decode};
-use std::alloc::Global;
+use std::alloc::{AllocError, Global};
 use std::marker::Model;
 
 /// The address of the first byte of memory.
@@ -21,20 +22,21 @@ pub struct Machine {
     registers: [u64; 32],
     memory: Vec<u8>,
     code: u64,
+    // the instructions of the code's words
+    insns: Vec<Option<Insn>>,
     pc: u64,
     mode: Mode,
 }
 
 impl Model for Machine {
-    ghost use Rattle.std.specs.Prelude.{◌≤◌, ◌≡◌, length};
-    ghost use Rattle.std.specs.Vec.{vec_len};
     ghost use Rattle.rv_machine.specs.State.{State};
+    ghost use Rattle.rv_machine.specs.Insns.{Agree};
 
     ghost Value = { State };
 
     ghost view = { λ m. record { registers = m.registers; memory = m.memory.items; code = m.code; pc = m.pc; mode = m.mode } };
 
-    ghost invariant = { λ m. (m.code ≤ vec_len m.memory) × (length m.registers ≡ 32) };
+    ghost invariant = { λ m. Agree m.registers m.memory.items m.insns.items m.code };
 }
 
 #[inline(always)]
@@ -69,6 +71,18 @@ fn write_64(memory: &mut [u8], at: usize, value: u64)
     LittleEndian::write_u64(&mut memory[at..], value);
 }
 
+/// The instructions of the first `count` words.
+fn insns_in(alloc: Global, memory: &[u8], count: usize) -> Result<Vec<Option<Insn>>, AllocError>
+    requires { 4 * count ≤ length memory.now }
+    ensures { IfOk result (λ insns. insns.items ≡ insns_of count memory.now) }
+{
+    let mut insns = Vec::with_capacity(alloc, count)?;
+    for k in 0..count {
+        insns.push(decode(LittleEndian::read_u32(&memory[4 * k..])))?;
+    }
+    Ok(insns)
+}
+
 #[inline(always)]
 fn mode_after(event: Event) -> Mode
     ensures { result ≡ mode_after event }
@@ -83,7 +97,7 @@ fn mode_after(event: Event) -> Mode
 impl Machine {
     ghost use Rattle.rv_machine.specs.State.{register, set_register};
     ghost use Rattle.rv_machine.specs.Memory.{place_of};
-    ghost use Rattle.rv_machine.specs.Step.{go_on, set_on, jump, load, store, branch, complete, ecall, act, ready_step, one};
+    ghost use Rattle.rv_machine.specs.Step.{go_on, set_on, jump, load, store, branch, complete, ecall, act, fetched, ready_step, one};
     ghost use Rattle.rv_machine.specs.declared.event.Mode.TheVariants.{Ready};
     ghost use Rattle.rv_machine.specs.Loaded.{loaded};
     ghost use Rattle.jf_base.specs.Limits.{AreLimits};
@@ -106,6 +120,8 @@ impl Machine {
         let mut memory = Vec::with_capacity(alloc, (end - BASE) as usize)?;
         memory.extend_from_slice(bytes)?;
         memory.resize((end - BASE) as usize, 0)?;
+        let code = image.code_len.min(len as u64);
+        let insns = insns_in(alloc, &memory, (code / 4) as usize)?;
         let mut registers = [0; 32];
         registers[2] = objects;
         registers[10] = objects;
@@ -116,7 +132,8 @@ impl Machine {
         Ok(Machine {
             registers,
             memory,
-            code: image.code_len.min(len as u64),
+            code,
+            insns,
             pc: BASE.wrapping_add(image.entry),
             mode: Mode::Ready,
         })
@@ -195,6 +212,7 @@ impl Machine {
     fn place(&self, from: u64, size: u64, address: u64) -> Result<usize, TrapKind>
         requires { 0 < size }
         ensures place { result ≡ place_of self.now.memory from size address }
+        ensures behind { IfOk result (λ at. from ≤ at) }
         ensures fits { IfOk result (λ at. at + size ≤ length self.now.memory) }
     {
         let len = self.memory.len() as u64;
@@ -609,21 +627,30 @@ impl Machine {
         }
     }
 
+    /// The instruction at the place.
     #[inline(always)]
-    #[tactic(auto, unfolding(crate::specs::Step::ready_step))]
+    fn fetch(&self) -> Result<Insn, TrapKind>
+        ensures { result ≡ fetched self.now }
+    {
+        let at = self.pc.wrapping_sub(BASE);
+        if at % 4 != 0 {
+            return Err(TrapKind::Align);
+        }
+        let k = (at / 4) as usize;
+        let insns = self.insns.as_slice();
+        if k >= insns.len() {
+            return Err(TrapKind::Range);
+        }
+        insns[k].ok_or(TrapKind::Word)
+    }
+
+    #[inline(always)]
     fn ready_step(&mut self) -> Event
         ensures { (self.new, result) ≡ ready_step self.old }
     {
-        if self.pc % 4 != 0 {
-            return Event::Trap(TrapKind::Align);
-        }
-        if self.pc < BASE || self.pc - BASE > self.code || self.code - (self.pc - BASE) < 4 {
-            return Event::Trap(TrapKind::Range);
-        }
-        let at = (self.pc - BASE) as usize;
-        match decode(LittleEndian::read_u32(&self.memory[at..])) {
-            Some(insn) => self.act(insn),
-            None => Event::Trap(TrapKind::Word),
+        match self.fetch() {
+            Ok(insn) => self.act(insn),
+            Err(kind) => Event::Trap(kind),
         }
     }
 
