@@ -1,17 +1,24 @@
 -- The instruction at a place, by the instructions that the machine keeps.
 use Rattle.std.proofs.Common.{◌≡◌, ◌≤◌, ◌<◌, ℕ, zero, suc, ◌+◌, ◌-◌, ◌*◌, ◌/◌, ◌%◌, ◌^◌, List, [], ◌∷◌, ◌++◌, length, get_or, Bool, true, false, ◌&&◌, nat_eq, nat_le, Option, Some, None, Result, Ok, Err, refl, sym, ap, ◌∙◌, subst, inl, inr, arith}
+use Rattle.std.specs.Prelude.{IfSome, IfOk}
 use Rattle.std.specs.Option.{ok_or}
 use Rattle.std.proofs.lemmas.Bool.{cases_lt, cases_eq, eq-eqb, ne_eqb, le-leb, lt-leb, and_from, and_left, and_right}
 use Rattle.std.proofs.lemmas.List.{get_or_append_left, get_or_push}
 use Rattle.rv_isa.specs.declared.insn.Insn.{Insn}
 use Rattle.rv_isa.specs.Decode.{decode_of}
+use Rattle.rv_isa.specs.Encode.{IsEncodable}
+use Rattle.rv_isa.proofs.Kept.{decode-encode}
 use Rattle.rv_machine.specs.declared.event.TrapKind.{TrapKind}
 use Rattle.rv_machine.specs.declared.event.TrapKind.TheVariants as trap
 use Rattle.rv_machine.specs.State.{State}
 use Rattle.rv_machine.specs.Memory.{number_at}
-use Rattle.rv_machine.specs.Insns.{insns_of}
+use Rattle.rv_machine.specs.Insns.{insns_of, AreEncodable}
 use Rattle.rv_machine.specs.Step.{fetched}
 use Rattle.rv_machine.proofs.Kept.{length-insns}
+
+at_option : (o : Option Insn) → ((i : Insn) → o ≡ Some i → IsEncodable i) → IfSome o IsEncodable
+at_option None h = tt
+at_option (Some i) h = h i refl
 
 -- an instruction that is kept is that of its word
 pub get-insns : (n k : ℕ) (memory : List ℕ) (d : Option Insn) → k < n → get_or (insns_of n memory) k d ≡ decode_of (number_at memory 4 (4 * k))
@@ -23,6 +30,25 @@ get-insns (suc n) k memory d low =
       | inr last ↦ (let same : n ≡ k = omega arith in
           get_or_push (insns_of n memory) _ d k (length-insns n memory ∙ same) ∙ ap (λ i. decode_of (number_at memory 4 (4 * i))) same)
     ]
+
+-- the instruction of a word can be encoded
+pub encodable : (w : ℕ) → w < 2 ^ 32 → IfSome (decode_of w) IsEncodable
+encodable w fits = at_option (decode_of w) (λ i is. (decode-encode w i fits is).encodable)
+
+-- one more
+pub AreEncodable-push : (insns : List (Option Insn)) (o : Option Insn) → AreEncodable insns → IfSome o IsEncodable → AreEncodable (insns ++ o ∷ [])
+AreEncodable-push [] o all one = (one, tt)
+AreEncodable-push (i ∷ insns) o all one = (all.0, AreEncodable-push insns o all.1 one)
+
+-- one of them
+pub get-AreEncodable : (insns : List (Option Insn)) (k : ℕ) → AreEncodable insns → IfSome (get_or insns k None) IsEncodable
+get-AreEncodable [] k all = tt
+get-AreEncodable (i ∷ insns) zero all = all.0
+get-AreEncodable (i ∷ insns) (suc k) all = get-AreEncodable insns k all.1
+
+pub ok_operands : (o : Option Insn) → IfSome o IsEncodable → IfOk (ok_or o trap.Word) IsEncodable
+ok_operands None h = tt
+ok_operands (Some i) h = h
 
 -- the place less the first address
 abbrev pub offset : ℕ → ℕ

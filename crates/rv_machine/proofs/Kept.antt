@@ -49,6 +49,7 @@ agree_stored registers memory new insns code n at value agree behind fits is =
       inside = omega arith;
       small = agree.small;
       decoded = agree.decoded ∙ sym (insns-stored (code / 4) memory n at value (omega arith) (omega arith)) ∙ ap (insns_of (code / 4)) (sym is);
+      operands = agree.operands;
     }
 
 -- a slice of a whole vector, written back

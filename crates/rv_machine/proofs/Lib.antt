@@ -5,3 +5,4 @@ pub mod Laws
 pub mod Rows
 pub mod Kept
 pub mod Fetch
+pub mod Keeps

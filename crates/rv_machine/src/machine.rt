@@ -1,6 +1,6 @@
 //! The machine.
 ghost use Rattle.std.specs.Prelude.{◌≡◌, ◌≤◌, ◌<◌, ◌+◌, ◌*◌, length, IfOk};
-ghost use Rattle.rv_machine.specs.Insns.{insns_of};
+ghost use Rattle.rv_machine.specs.Insns.{insns_of, AreEncodable};
 ghost use Rattle.rv_machine.specs.Memory.{stored};
 ghost use Rattle.rv_machine.specs.Step.{mode_after};
 
@@ -74,7 +74,8 @@ fn write_64(memory: &mut [u8], at: usize, value: u64)
 /// The instructions of the first `count` words.
 fn insns_in(alloc: Global, memory: &[u8], count: usize) -> Result<Vec<Option<Insn>>, AllocError>
     requires { 4 * count ≤ length memory.now }
-    ensures { IfOk result (λ insns. insns.items ≡ insns_of count memory.now) }
+    ensures decoded { IfOk result (λ insns. insns.items ≡ insns_of count memory.now) }
+    ensures operands { IfOk result (λ insns. AreEncodable insns.items) }
 {
     let mut insns = Vec::with_capacity(alloc, count)?;
     for k in 0..count {
@@ -101,6 +102,7 @@ impl Machine {
     ghost use Rattle.rv_machine.specs.declared.event.Mode.TheVariants.{Ready};
     ghost use Rattle.rv_machine.specs.Loaded.{loaded};
     ghost use Rattle.jf_base.specs.Limits.{AreLimits};
+    ghost use Rattle.rv_isa.specs.Encode.{IsEncodable};
     ghost use Rattle.std.specs.Int.{w8, w16, w32, w64};
     ghost use Rattle.std.specs.Prelude.{◌≡◌, ◌*◌, false, Option, IfOk};
 
@@ -141,21 +143,18 @@ impl Machine {
 
     #[inline(always)]
     fn register(&self, r: u8) -> u64
+        requires { r < 32 }
         ensures { result ≡ register self.now r }
     {
-        let registers = &self.registers;
-        if (r as usize) < registers.len() {
-            registers[r as usize]
-        } else {
-            0
-        }
+        self.registers[r as usize]
     }
 
     #[inline(always)]
     fn set_register(&mut self, rd: u8, value: u64)
+        requires { rd < 32 }
         ensures { self.new ≡ record self.old { registers = set_register self.old.registers rd value } }
     {
-        if rd != 0 && (rd as usize) < 32 {
+        if rd != 0 {
             self.registers[rd as usize] = value;
         }
     }
@@ -170,6 +169,7 @@ impl Machine {
 
     #[inline(always)]
     fn set_on(&mut self, rd: u8, value: u64) -> Event
+        requires { rd < 32 }
         ensures { (self.new, result) ≡ set_on self.old rd value }
     {
         self.set_register(rd, value);
@@ -179,6 +179,7 @@ impl Machine {
 
     #[inline(always)]
     fn jump(&mut self, rd: u8, target: u64) -> Event
+        requires { rd < 32 }
         ensures { (self.new, result) ≡ jump self.old rd target }
     {
         if target % 4 == 0 {
@@ -231,6 +232,7 @@ impl Machine {
 
     #[inline(always)]
     fn load_8(&mut self, is_signed: bool, rd: u8, address: u64) -> Event
+        requires { rd < 32 }
         ensures { (self.new, result) ≡ load self.old w8 is_signed rd address }
     {
         match self.place(0, 1, address) {
@@ -249,6 +251,7 @@ impl Machine {
 
     #[inline(always)]
     fn load_16(&mut self, is_signed: bool, rd: u8, address: u64) -> Event
+        requires { rd < 32 }
         ensures { (self.new, result) ≡ load self.old w16 is_signed rd address }
     {
         match self.place(0, 2, address) {
@@ -267,6 +270,7 @@ impl Machine {
 
     #[inline(always)]
     fn load_32(&mut self, is_signed: bool, rd: u8, address: u64) -> Event
+        requires { rd < 32 }
         ensures { (self.new, result) ≡ load self.old w32 is_signed rd address }
     {
         match self.place(0, 4, address) {
@@ -285,6 +289,7 @@ impl Machine {
 
     #[inline(always)]
     fn load_64(&mut self, rd: u8, address: u64) -> Event
+        requires { rd < 32 }
         ensures { (self.new, result) ≡ load self.old w64 false rd address }
     {
         match self.place(0, 8, address) {
@@ -352,7 +357,7 @@ impl Machine {
         }
     }
 
-    #[inline(never)]
+    #[inline(always)]
     fn ecall(&mut self) -> Event
         ensures { (self.new, result) ≡ ecall self.old }
     {
@@ -369,6 +374,7 @@ impl Machine {
     #[inline(always)]
     #[tactic(auto, unfolding(crate::specs::Step::act))]
     fn act(&mut self, insn: Insn) -> Event
+        requires { IsEncodable insn }
         ensures { (self.new, result) ≡ act insn self.old }
     {
         match insn {
@@ -630,7 +636,8 @@ impl Machine {
     /// The instruction at the place.
     #[inline(always)]
     fn fetch(&self) -> Result<Insn, TrapKind>
-        ensures { result ≡ fetched self.now }
+        ensures value { result ≡ fetched self.now }
+        ensures operands { IfOk result IsEncodable }
     {
         let at = self.pc.wrapping_sub(BASE);
         if at % 4 != 0 {
@@ -654,7 +661,7 @@ impl Machine {
         }
     }
 
-    #[inline(never)]
+    #[inline(always)]
     fn complete(&mut self, given: Option<u8>) -> Event
         ensures { (self.new, result) ≡ complete self.old given }
     {
@@ -678,8 +685,13 @@ impl Machine {
         match self.mode {
             Mode::Ready => {
                 let event = self.ready_step();
-                self.mode = mode_after(event);
-                event
+                match event {
+                    Event::Ran => Event::Ran,
+                    _ => {
+                        self.mode = mode_after(event);
+                        event
+                    }
+                }
             }
             Mode::Waiting => self.complete(given),
             Mode::Ended(event) => event,
