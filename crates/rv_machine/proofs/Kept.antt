@@ -1,10 +1,11 @@
 -- Stores behind a place keep what stands before it.
-use Rattle.std.proofs.Common.{◌≡◌, ◌≤◌, ◌<◌, ℕ, zero, suc, ◌+◌, ◌-◌, ◌*◌, ◌/◌, ◌^◌, List, [], ◌∷◌, ◌++◌, length, get_or, take, drop, Option, refl, sym, ap, ◌∙◌, inl, inr, arith, length-append, length-drop, append-nil}
+use Rattle.std.proofs.Common.{◌≡◌, ◌≤◌, ◌<◌, ℕ, zero, suc, ◌+◌, ◌-◌, ◌*◌, ◌/◌, ◌%◌, ◌^◌, List, [], ◌∷◌, ◌++◌, length, get_or, take, drop, Option, refl, sym, ap, ◌∙◌, inl, inr, arith, length-append, length-drop, append-nil, append_assoc}
 use Rattle.std.proofs.lemmas.Bool.{cases_lt, cases_eq}
+use Rattle.std.proofs.Math.Nat.{div-one}
 use Rattle.std.proofs.Math.ListN.{drop_of_length-le}
-use Rattle.std.proofs.lemmas.List.{take_all, length-take-le, drop-append-le, take-append-drop}
+use Rattle.std.proofs.lemmas.List.{take_all, length-take-le, drop-append-le, take-append-drop, drop-drop, drop_at}
 use Rattle.byteorder.specs.Endian.{little_bytes, little_number}
-use Rattle.byteorder.specs.Numbers.{little_from-append, length-bytes_low_first}
+use Rattle.byteorder.specs.Numbers.{little_from-append, little_from-bytes, length-bytes_low_first}
 use Rattle.rv_isa.specs.declared.insn.Insn.{Insn}
 use Rattle.rv_isa.specs.Decode.{decode_of}
 use Rattle.rv_machine.specs.Memory.{number_at, stored}
@@ -57,3 +58,22 @@ pub written_back : (items new : List ℕ) (len : ℕ) → length new ≡ len →
 written_back items new len long same =
     let none : drop (length new) items ≡ [] = drop_of_length-le items (omega arith) in
     ap (λ l. take len (new ++ l)) none ∙ ap (take len) (append-nil new) ∙ take_all len new (omega arith)
+
+-- a number behind the place of a store
+pub number_behind : (memory : List ℕ) (n at m value i : ℕ) → at + n ≤ i → at + n ≤ length memory → number_at (stored memory at n value) m i ≡ number_at memory m i
+number_behind memory n at m value i high fits =
+    let front : List ℕ = take at memory ++ little_bytes n value in
+    let long : length front ≡ at + n = length-append (take at memory) (little_bytes n value) ∙ (let a = length-take-le at memory (omega arith) in let b = length-bytes_low_first 0 n value in omega (arith, a, b)) in
+    let parts : stored memory at n value ≡ front ++ drop (at + n) memory = sym (append_assoc (take at memory) (little_bytes n value) (drop (at + n) memory)) in
+    let behind : drop (at + n) (stored memory at n value) ≡ drop (at + n) memory = ap (drop (at + n)) parts ∙ drop_at front (drop (at + n) memory) (at + n) long in
+    let d : ℕ = i - (at + n) in
+    let split : i ≡ (at + n) + d = omega arith in
+    let same : drop i (stored memory at n value) ≡ drop i memory =
+    ap (λ k. drop k (stored memory at n value)) split ∙ sym (drop-drop d (at + n) (stored memory at n value)) ∙ ap (drop d) behind ∙ drop-drop d (at + n) memory ∙ ap (λ k. drop k memory) (sym split) in
+    ap (little_number m) same
+
+-- the number that was stored
+pub number_stored : (memory : List ℕ) (n at value : ℕ) → at ≤ length memory → number_at (stored memory at n value) n at ≡ value % 256 ^ n
+number_stored memory n at value fits =
+    let long : length (take at memory) ≡ at = length-take-le at memory fits in
+    ap (little_number n) (drop_at (take at memory) _ at long) ∙ little_from-bytes n 0 value (drop (at + n) memory) ∙ ap (λ v. v % 256 ^ n) (div-one value)

@@ -6,3 +6,4 @@ pub mod Rows
 pub mod Kept
 pub mod Fetch
 pub mod Keeps
+pub mod Words

@@ -1,7 +1,8 @@
 -- What single instructions do to a run that is at them.
 use Rattle.std.proofs.Common.{◌≡◌, ◌≤◌, ℕ, ◌+◌, ◌/◌, ◌*◌, ◌%◌, ◌^◌, List, [], ◌∷◌, ◌++◌, Bool, true, false, Option, Some, None, Result, Ok, Err, refl, sym, ap, ◌∙◌, subst, arith, w32}
-use Rattle.std.specs.Prelude.{◌-◌, ◌==◌, not, nat_lt, int_lt}
+use Rattle.std.specs.Prelude.{◌-◌, ◌==◌, not, nat_lt, nat_le, int_lt}
 use Rattle.std.specs.Int.{Width, byte_len, cast_signed}
+use Rattle.std.proofs.lemmas.Bool.{le-leb}
 use Rattle.rv_isa.specs.declared.insn.Insn.{Insn}
 use Rattle.rv_isa.specs.declared.insn.Insn.TheVariants.{Lui, Auipc, Jal, Jalr, Addi, Addiw, Fence, Ecall, Ebreak}
 use Rattle.rv_isa.specs.Encode.{encode_of, IsEncodable}
@@ -10,11 +11,12 @@ use Rattle.rv_machine.specs.declared.event.Mode.TheVariants as mode
 use Rattle.rv_machine.specs.declared.event.Event.{Event}
 use Rattle.rv_machine.specs.declared.event.Event.TheVariants as event
 use Rattle.rv_machine.specs.declared.event.TrapKind.{TrapKind}
+use Rattle.rv_machine.specs.declared.event.TrapKind.TheVariants as trap
 use Rattle.rv_machine.specs.State.{State, register, set_register, next_pc}
 use Rattle.rv_machine.specs.Alu.{sum_of, word_sum}
 use Rattle.rv_machine.specs.Memory.{place_of, value_at, stored}
-use Rattle.rv_machine.specs.Step.{act, set_on, go_on, jump, branch, load, load_at, store, store_at, trapped, settled, mode_after, ecall}
-use Rattle.rv_machine.specs.Exec.{Run, turn, after}
+use Rattle.rv_machine.specs.Step.{act, set_on, go_on, jump, branch, load, load_at, store, store_at, trapped, settled, mode_after, ecall, one}
+use Rattle.rv_machine.specs.Exec.{Run, turn, after, given}
 use Rattle.rv_machine.proofs.Laws.{IsAtWord, turn_at}
 
 -- the same memory, with other registers, at another place
@@ -106,3 +108,36 @@ pub exit_turn : (r : Run) (v : ℕ) → IsAtWord r.state (encode_of Ecall) → r
 unfolding act
 exit_turn r v at call value =
     turn_at r Ecall at tt ∙ simp (call, value)
+
+-- ECALL 63, with a byte left
+pub byte_turn : (r : Run) (b : ℕ) (rest : List ℕ) (p : ℕ) → IsAtWord r.state (encode_of Ecall) → register r.state 17 ≡ 63 → r.left ≡ b ∷ rest → next_pc r.state ≡ p → turn r ≡ record { state = moved r.state (set_register r.state.registers 10 b) p; left = rest; taken = r.taken + 1; output = r.output }
+unfolding act one
+byte_turn r b rest p at call has place =
+    let asked : State = record r.state { mode = mode.Waiting } in
+    let waits : after (act Ecall r.state).1 (settled (act Ecall r.state)).0 r ≡ given r.left asked r = simp call in
+    turn_at r Ecall at tt ∙ waits ∙ ap (λ l. given l asked r) has
+    ∙ ap (λ x. record { state = moved r.state (set_register r.state.registers 10 b) x; left = rest; taken = r.taken + 1; output = r.output }) place
+
+-- ECALL 63, at the end of the input
+pub end_turn : (r : Run) (p : ℕ) → IsAtWord r.state (encode_of Ecall) → register r.state 17 ≡ 63 → r.left ≡ [] → next_pc r.state ≡ p → turn r ≡ record r { state = moved r.state (set_register r.state.registers 10 (2 ^ 64 - 1)) p }
+unfolding act one
+end_turn r p at call none place =
+    let asked : State = record r.state { mode = mode.Waiting } in
+    let waits : after (act Ecall r.state).1 (settled (act Ecall r.state)).0 r ≡ given r.left asked r = simp call in
+    turn_at r Ecall at tt ∙ waits ∙ ap (λ l. given l asked r) none
+    ∙ ap (λ x. record r { state = moved r.state (set_register r.state.registers 10 (2 ^ 64 - 1)) x }) place
+
+-- ECALL 94
+pub limit_turn : (r : Run) (n : ℕ) → IsAtWord r.state (encode_of Ecall) → register r.state 17 ≡ 94 → register r.state 10 ≡ n → n ≤ 1 → turn r ≡ record r { state = record r.state { mode = mode.Ended (event.Limited n) } }
+unfolding act
+limit_turn r n at call value low =
+    let small : nat_le n 1 ≡ true = le-leb n 1 low in
+    turn_at r Ecall at tt ∙ simp (call, value, small)
+
+-- an instruction that can't be done
+pub trap_turn : (r : Run) (i : Insn) (kind : TrapKind) → IsAtWord r.state (encode_of i) → IsEncodable i → act i r.state ≡ trapped r.state kind → turn r ≡ record r { state = record r.state { mode = mode.Ended (event.Trap kind) } }
+trap_turn r i kind at can does = turn_at r i at can ∙ ap (λ w. after w.1 (settled w).0 r) does
+
+pub ebreak_turn : (r : Run) → IsAtWord r.state (encode_of Ebreak) → turn r ≡ record r { state = record r.state { mode = mode.Ended (event.Trap trap.Break) } }
+unfolding act
+ebreak_turn r at = trap_turn r Ebreak trap.Break at tt refl
