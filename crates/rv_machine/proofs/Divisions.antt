@@ -1,15 +1,14 @@
 -- Quotients and remainders of two's complement numbers, by their bits.
-use Rattle.std.proofs.Common.{◌≡◌, ◌<◌, ◌≤◌, ℕ, zero, suc, ◌+◌, ◌-◌, ◌/◌, ◌%◌, ◌^◌, Bool, true, false, cond, ◌&&◌, ℤ, pos, refl, sym, ap, ◌∙◌, subst, inl, inr, arith}
+use Rattle.std.proofs.Common.{◌≡◌, ◌<◌, ℕ, zero, suc, ◌+◌, ◌-◌, ◌/◌, ◌%◌, ◌^◌, Bool, false, cond, ◌&&◌, ℤ, pos, sym, ap, ◌∙◌, subst, inl, inr, arith}
 use Rattle.std.proofs.Math.Nat.{div-le_self, mod-le}
 use Rattle.std.proofs.lemmas.Bool.{cases_Bool, eqb-true, ne_eqb, and_parts, cond-true, cond-false}
 use Rattle.std.proofs.lemmas.Int.{of_z-to_z}
-use Rattle.std.specs.Prelude.{◌==◌, nat_eq, int_div, int_rem}
+use Rattle.std.specs.Prelude.{nat_eq, int_div, int_rem}
 use Rattle.std.specs.Int.{Width, w32, w64}
 use lib.IntN.{negsuc, neg_ℤ, nat_abs}
 use lib.Signed.{mag}
-use mir.Val.{to_z, of_z, bits, hbits, SFits}
-use Rattle.std.proofs.Math.Facts.{sfits_to_z}
-use Rattle.rv_machine.specs.Alu.{low_word, extended, extended_word, quotient_signed, remainder_signed, word_quotient_signed, word_remainder_signed}
+use mir.Val.{to_z, of_z, bits, hbits}
+use Rattle.rv_machine.specs.Alu.{low_word, extended, quotient_signed, word_quotient_signed, word_remainder_signed}
 
 neg_bits : (w : Width) (k : ℕ) → 0 < 2 ^ bits w → of_z w (neg_ℤ (pos k)) < 2 ^ bits w
 neg_bits w zero p = p

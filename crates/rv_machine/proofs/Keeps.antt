@@ -1,6 +1,6 @@
 -- What every step leaves as it was: the mode of a step that does no more than its instruction, the code and its length, the memory's length, and x0.
-use Rattle.std.proofs.Common.{◌≡◌, ◌≤◌, ℕ, ◌+◌, ◌-◌, ◌*◌, ◌/◌, ◌%◌, ◌^◌, List, ◌++◌, length, take, drop, slice_index, slice_set, Bool, true, false, ◌&&◌, nat_eq, nat_le, Option, Some, None, Result, Ok, Err, refl, sym, ap, ◌∙◌, inl, inr, arith}
-use Rattle.std.specs.Prelude.{if◌then◌else◌, ◌==◌, not, nat_lt, int_lt, min}
+use Rattle.std.proofs.Common.{◌≡◌, ◌≤◌, ℕ, ◌+◌, ◌-◌, ◌*◌, ◌/◌, ◌%◌, ◌^◌, List, length, take, slice_index, Bool, true, false, ◌&&◌, nat_eq, nat_le, Option, Result, Ok, Err, refl, sym, ap, ◌∙◌, inl, inr, arith}
+use Rattle.std.specs.Prelude.{if◌then◌else◌, ◌==◌, not, nat_lt, int_lt}
 use Rattle.std.specs.Int.{Width, w8, w16, w32, w64, byte_len}
 use Rattle.std.proofs.lemmas.Bool.{cases_Bool, cond-true, cond-false, and_parts, leb-true, eqb-false}
 use Rattle.std.proofs.Common.{take-take}
@@ -18,16 +18,9 @@ use Rattle.rv_machine.specs.declared.event.TrapKind.TheVariants as trap
 use Rattle.rv_machine.specs.Alu.{signed, sum_of}
 use Rattle.rv_machine.specs.State.{State, register, set_register, next_pc}
 use Rattle.rv_machine.specs.Memory.{place_of, stored}
-use Rattle.rv_machine.specs.Step.{act, act_fetched, fetched, ready_step, set_on, jump, branch, load, load_at, store, store_at, ecall, answer, settled, step_in, one}
+use Rattle.rv_machine.specs.Keeps.{Keeps}
+use Rattle.rv_machine.specs.Step.{act, act_fetched, fetched, ready_step, jump, branch, load, load_at, store, store_at, ecall, answer, settled, step_in, one}
 use Rattle.rv_machine.proofs.Kept.{length-stored}
-
--- what two states have in common
-pub record Keeps (s t : State) : Type 0 where
-  pub code : t.code ≡ s.code
-  pub long : length t.memory ≡ length s.memory
-  pub words : take s.code t.memory ≡ take s.code s.memory
-  pub count : length t.registers ≡ length s.registers
-  pub zero : register t 0 ≡ register s 0
 
 -- and that both are in one mode
 pub record KeepsMode (s t : State) : Type 0 where

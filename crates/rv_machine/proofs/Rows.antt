@@ -1,21 +1,19 @@
 -- What single instructions do to a run that is at them.
-use Rattle.std.proofs.Common.{◌≡◌, ◌≤◌, ℕ, ◌+◌, ◌/◌, ◌*◌, ◌%◌, ◌^◌, List, [], ◌∷◌, ◌++◌, Bool, true, false, Option, Some, None, Result, Ok, Err, refl, sym, ap, ◌∙◌, subst, arith, w32}
-use Rattle.std.specs.Prelude.{◌-◌, ◌==◌, not, nat_lt, nat_le, int_lt}
+use Rattle.std.proofs.Common.{◌≡◌, ◌≤◌, ℕ, ◌+◌, ◌/◌, ◌*◌, ◌%◌, ◌^◌, List, [], ◌∷◌, ◌++◌, Bool, true, false, Ok, refl, ap, ◌∙◌, subst, w32}
+use Rattle.std.specs.Prelude.{◌-◌, nat_le}
 use Rattle.std.specs.Int.{Width, byte_len, cast_signed}
 use Rattle.std.proofs.lemmas.Bool.{le-leb}
 use Rattle.rv_isa.specs.declared.insn.Insn.{Insn}
 use Rattle.rv_isa.specs.declared.insn.Insn.TheVariants.{Lui, Auipc, Jal, Jalr, Addi, Addiw, Fence, Ecall, Ebreak}
 use Rattle.rv_isa.specs.Encode.{encode_of, IsEncodable}
-use Rattle.rv_machine.specs.declared.event.Mode.{Mode}
 use Rattle.rv_machine.specs.declared.event.Mode.TheVariants as mode
-use Rattle.rv_machine.specs.declared.event.Event.{Event}
 use Rattle.rv_machine.specs.declared.event.Event.TheVariants as event
 use Rattle.rv_machine.specs.declared.event.TrapKind.{TrapKind}
 use Rattle.rv_machine.specs.declared.event.TrapKind.TheVariants as trap
 use Rattle.rv_machine.specs.State.{State, register, set_register, next_pc}
 use Rattle.rv_machine.specs.Alu.{sum_of, word_sum}
 use Rattle.rv_machine.specs.Memory.{place_of, value_at, stored}
-use Rattle.rv_machine.specs.Step.{act, set_on, go_on, jump, branch, load, load_at, store, store_at, trapped, settled, mode_after, ecall, one}
+use Rattle.rv_machine.specs.Step.{act, set_on, jump, branch, load, load_at, store, store_at, trapped, settled, one}
 use Rattle.rv_machine.specs.Exec.{Run, turn, after, given}
 use Rattle.rv_machine.proofs.Laws.{IsAtWord, turn_at}
 

@@ -1,12 +1,11 @@
 -- Words in the code, and places in the memory.
-use Rattle.std.proofs.Common.{◌≡◌, ◌≤◌, ◌<◌, ℕ, ◌+◌, ◌-◌, ◌*◌, ◌%◌, ◌^◌, List, [], ◌∷◌, ◌++◌, length, drop, Bool, true, ◌&&◌, nat_eq, nat_le, Result, Ok, refl, sym, ap, ◌∙◌, subst, arith}
+use Rattle.std.proofs.Common.{◌≡◌, ◌≤◌, ◌<◌, ℕ, ◌+◌, ◌-◌, ◌*◌, ◌%◌, ◌^◌, List, [], ◌∷◌, ◌++◌, length, drop, true, ◌&&◌, nat_eq, nat_le, Ok, refl, sym, ap, ◌∙◌, subst, arith}
 use Rattle.std.specs.List.{flat_map}
 use Rattle.std.proofs.lemmas.Bool.{eq-eqb, le-leb, and_from}
 use Rattle.std.proofs.lemmas.List.{drop-drop}
 use Rattle.byteorder.specs.Endian.{little_number, little_bytes}
 use Rattle.byteorder.specs.Numbers.{little_number-reads_back}
-use Rattle.rv_machine.specs.declared.event.TrapKind.{TrapKind}
-use Rattle.rv_machine.specs.Memory.{number_at, place_of, stored}
+use Rattle.rv_machine.specs.Memory.{place_of, stored}
 use Rattle.rv_machine.proofs.Laws.{IsWord, HasWords}
 use Rattle.rv_machine.proofs.Kept.{number_before}
 

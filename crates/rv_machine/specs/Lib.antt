@@ -5,3 +5,4 @@ pub mod Insns
 pub mod Step
 pub mod Loaded
 pub mod Exec
+pub mod Keeps

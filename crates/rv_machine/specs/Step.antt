@@ -1,5 +1,5 @@
 -- One instruction of the machine (the RISC-V unprivileged specification, chapters 2, 4 and 7), and the calls that its environment has.
-use Rattle.std.specs.Prelude.{ℕ, ◌+◌, ◌-◌, ◌*◌, ◌/◌, ◌%◌, ◌^◌, ◌==◌, nat_le, nat_lt, int_lt, Bool, true, false, not, ◌&&◌, if◌then◌else◌, bit_and, bit_or, bit_xor, List, length, Option, Some, None, Result, Ok, Err}
+use Rattle.std.specs.Prelude.{ℕ, ◌+◌, ◌-◌, ◌*◌, ◌/◌, ◌%◌, ◌^◌, ◌==◌, nat_le, nat_lt, int_lt, Bool, true, false, not, ◌&&◌, if◌then◌else◌, bit_and, bit_or, bit_xor, Option, Some, None, Result, Ok, Err}
 use Rattle.std.specs.Option.{ok_or}
 use Rattle.std.specs.Int.{Width, w8, w16, w32, w64, byte_len, cast_signed}
 use Rattle.rv_isa.specs.declared.insn.Insn.{Insn}
@@ -12,7 +12,7 @@ use Rattle.rv_machine.specs.declared.event.Event.TheVariants as event
 use Rattle.rv_machine.specs.declared.event.TrapKind.{TrapKind}
 use Rattle.rv_machine.specs.declared.event.TrapKind.TheVariants as trap
 use Rattle.rv_machine.specs.State.{State, register, set_register, next_pc}
-use Rattle.rv_machine.specs.Alu.{signed, extended, sum_of, difference_of, is_less_signed, is_less_unsigned, shifted_left, shifted_right, shifted_right_signed, word_sum, word_difference, word_shifted_left, word_shifted_right, word_shifted_right_signed, product_of, word_product, high_product_signed, high_product_mixed, high_product_unsigned, quotient_unsigned, remainder_unsigned, quotient_signed, remainder_signed, word_quotient_unsigned, word_remainder_unsigned, word_quotient_signed, word_remainder_signed}
+use Rattle.rv_machine.specs.Alu.{signed, sum_of, difference_of, is_less_signed, is_less_unsigned, shifted_left, shifted_right, shifted_right_signed, word_sum, word_difference, word_shifted_left, word_shifted_right, word_shifted_right_signed, product_of, word_product, high_product_signed, high_product_mixed, high_product_unsigned, quotient_unsigned, remainder_unsigned, quotient_signed, remainder_signed, word_quotient_unsigned, word_remainder_unsigned, word_quotient_signed, word_remainder_signed}
 use Rattle.rv_machine.specs.Memory.{place_of, number_at, value_at, stored}
 
 -- nothing is done

@@ -4,7 +4,12 @@
 mod alu;
 mod event;
 mod machine;
+mod theorems;
 
 pub use event::{Event, Mode, TrapKind};
 pub use machine::{BASE, Machine};
 pub use program_image::Image;
+pub use theorems::{run_laws, step_laws};
+
+#[cfg(test)]
+mod tests;

@@ -1,5 +1,4 @@
-use Rattle.std.proofs.Common.{◌≡◌, ◌≤◌, ◌<◌, ◌+◌, ◌-◌, ◌%◌, ◌/◌, ◌^◌, ℕ, List, length, get_or, Ok, Err, Option, Some, None, Result, subst, sym, ap, ◌∙◌, arith}
-use Rattle.rv_machine.specs.State.{State}
+use Rattle.std.proofs.Common.{◌≡◌, ◌<◌, ◌/◌, ◌^◌, ℕ, List, length, get_or, Option, None, Result, subst, sym, ap, ◌∙◌, arith}
 use Rattle.std.specs.Prelude.{IfOk}
 use Rattle.std.specs.Option.{ok_or}
 use Rattle.rv_isa.specs.declared.insn.Insn.{Insn}
