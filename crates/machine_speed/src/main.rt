@@ -169,7 +169,9 @@ fn main(rt: HostRuntime) -> anyhow::Result<()> {
     let alloc = rt.alloc();
     let mut words = env::args(&rt)?.skip(1);
     let name = words.next().context("the name of a loop is wanting")?;
-    let count = words.next().context("the count of instructions is wanting")?;
+    let count = words
+        .next()
+        .context("the count of instructions is wanting")?;
     let count: u64 = count.parse()?;
     let image = loop_image(alloc, &name, count)?;
     let mut machine = match Machine::load(alloc, &image, Limits::standard()) {

@@ -4,6 +4,7 @@ use crate::machine::Machine;
 use jf_base::{Limits, List};
 use program_image::Image;
 use std::alloc::Global;
+use std::process::Abort;
 use std::test::Fail;
 
 fn image(alloc: Global, words: &[u32], entry: u64) -> Result<Image, Fail> {
@@ -32,43 +33,58 @@ fn last_event(alloc: Global, words: &[u32], entry: u64, steps: u64) -> Result<Ev
     Ok(event)
 }
 
+fn assert_traps(
+    rt: &impl Abort,
+    alloc: Global,
+    words: &[u32],
+    entry: u64,
+    kind: TrapKind,
+) -> Result<(), Fail> {
+    let steps = words.len() as u64;
+    let wanted = Event::Trap(kind);
+    assert_eq!(rt;
+        last_event(alloc, words, entry, steps)?,
+        wanted,
+        "{words:?} from {entry}"
+    );
+    assert_eq!(rt;
+        last_event(alloc, words, entry, steps + 1)?,
+        wanted,
+        "{words:?} from {entry}"
+    );
+    Ok(())
+}
+
 // Images of one or two words that no compiler makes: the event of the last step, and of the one behind it.
 #[test]
 fn traps(rt: HostRuntime) -> Result<(), Fail> {
     let alloc = rt.alloc();
-    let cases: [([u32; 2], u64, u64, TrapKind); 9] = [
-        // no instruction; ECALL with 0 in a7; EBREAK
-        ([0x0000_0000, 0], 0, 1, TrapKind::Word),
-        ([0x0000_0073, 0], 0, 1, TrapKind::Call),
-        ([0x0010_0073, 0], 0, 1, TrapKind::Break),
-        // LD from 4, which is misaligned and outside; LW from 0, which is outside
-        ([0x0040_3083, 0], 0, 1, TrapKind::Align),
-        ([0x0000_2083, 0], 0, 1, TrapKind::Range),
-        // LUI x1, 16, and SW to 65,536, which is code
-        ([0x0001_00b7, 0x0000_a023], 0, 2, TrapKind::Range),
-        // a fetch at a place that isn't a multiple of 4, at the end of the code, and before it
-        ([0x0000_0013, 0x0000_0013], 2, 1, TrapKind::Align),
-        ([0x0000_0013, 0x0000_0013], 8, 1, TrapKind::Range),
-        (
-            [0x0000_0013, 0x0000_0013],
-            0xffff_ffff_ffff_fff8,
-            1,
-            TrapKind::Range,
-        ),
-    ];
-    for (words, entry, steps, kind) in cases {
-        let wanted = Event::Trap(kind);
-        assert_eq!(rt;
-            last_event(alloc, &words, entry, steps)?,
-            wanted,
-            "{words:?} from {entry}"
-        );
-        assert_eq!(rt;
-            last_event(alloc, &words, entry, steps + 1)?,
-            wanted,
-            "{words:?} from {entry}"
-        );
-    }
+    // no instruction; ECALL with 0 in a7; EBREAK
+    assert_traps(&rt, alloc, &[0x0000_0000], 0, TrapKind::Word)?;
+    assert_traps(&rt, alloc, &[0x0000_0073], 0, TrapKind::Call)?;
+    assert_traps(&rt, alloc, &[0x0010_0073], 0, TrapKind::Break)?;
+    // LD from 4, which is misaligned and outside; LW from 0, which is outside
+    assert_traps(&rt, alloc, &[0x0040_3083], 0, TrapKind::Align)?;
+    assert_traps(&rt, alloc, &[0x0000_2083], 0, TrapKind::Range)?;
+    // LUI x1, 16, and SW to 65,536, which is code
+    assert_traps(&rt, alloc, &[0x0001_00b7, 0x0000_a023], 0, TrapKind::Range)?;
+    // a fetch at a place that isn't a multiple of 4, at the end of the code, and before it
+    assert_traps(&rt, alloc, &[0x0000_0013], 2, TrapKind::Align)?;
+    assert_traps(&rt, alloc, &[0x0000_0013], 4, TrapKind::Range)?;
+    assert_traps(
+        &rt,
+        alloc,
+        &[0x0000_0013],
+        0xffff_ffff_ffff_fffc,
+        TrapKind::Range,
+    )?;
+    // a fetch of a word that the code has half of
+    let mut image = image(alloc, &[0x0000_0013], 0)?;
+    image.code_len = 2;
+    let mut machine = Machine::load(alloc, &image, Limits::standard())
+        .ok()
+        .ok_or("no memory")?;
+    assert_eq!(rt; machine.step(None), Event::Trap(TrapKind::Range));
     Ok(())
 }
 
