@@ -1,6 +1,10 @@
 //! Programs of the first form: a Fortran main program that calls one C function, which puts characters.
 #![tactic(auto)]
 
+mod lines;
+mod pair;
 mod program;
+mod words;
 
+pub use pair::Reading;
 pub use program::{FirstProgram, PutcharArgument};
