@@ -1,6 +1,6 @@
 -- Names, binding labels and numbers.
-use Rattle.std.specs.Prelude.{ℕ, ◌≤◌, ◌≢◌, List, [], ◌∷◌, ◌++◌, All, Contains, length, codes}
-use Rattle.std.specs.Char.{IsAsciiLowercase}
+use Rattle.std.specs.Prelude.{ℕ, ◌≡◌, slice_index, ◌≤◌, ◌≢◌, List, [], ◌∷◌, ◌++◌, All, Contains, length, codes}
+use Rattle.std.specs.Char.{IsAsciiLowercase, IsAsciiDigit}
 
 -- 1 to 63 lower-case letters: a name of ISO/IEC 1539-1:2018, 6.2.2, of letters of one case
 pub record IsName (word : List ℕ) : Type 0 where
@@ -36,3 +36,9 @@ pub record IsLabel (name label : List ℕ) : Type 0 where
 -- a value of a C `int` that is written without a sign
 abbrev pub IsInt : ℕ → Type 0
 IsInt number = number ≤ 2147483647
+
+-- one decimal digit or more, the first not 0 where there are more
+pub record IsPlainNumeral (numeral : List ℕ) : Type 0 where
+  pub some : 1 ≤ length numeral
+  pub digits : All IsAsciiDigit numeral
+  pub plain : slice_index numeral 0 ≡ 48 → length numeral ≡ 1

@@ -2,7 +2,11 @@
 
 ghost use Rattle.std.specs.Prelude.{◌≡◌, ◌≢◌, ℕ, ◌++◌, List, MatchOption, IsTrue, ◌↔◌, Contains, codes};
 ghost use Rattle.std.specs.Fmt.{decimal};
-ghost use Rattle.first_form.specs.Words.{IsName, IsLabel, IsInt, reserved_words};
+ghost use Rattle.std.specs.List.{list_any};
+ghost use Rattle.std.specs.Str.{bytes_eq};
+ghost use Rattle.std.specs.Option.{SomeIff};
+ghost use Rattle.std.specs.Str.Parse.{digits_value};
+ghost use Rattle.first_form.specs.Words.{IsName, IsLabel, IsInt, IsPlainNumeral, reserved_words};
 
 const GREATEST_NUMBER: u32 = 2_147_483_647;
 
@@ -71,10 +75,16 @@ pub(crate) fn is_name(word: &[u8]) -> bool
     !word.is_empty() && word.len() <= 63 && word.iter().all(|letter| letter.is_ascii_lowercase())
 }
 
+fn is_among(word: &[u8], words: &[&[u8]]) -> bool
+    ensures { result ≡ list_any (λ x. bytes_eq word.now x.now) words.now }
+{
+    words.iter().any(|known| word == *known)
+}
+
 fn is_reserved(word: &[u8]) -> bool
     ensures { IsTrue result ↔ Contains reserved_words word.now }
 {
-    RESERVED_WORDS.iter().any(|reserved| *reserved == word)
+    is_among(word, &RESERVED_WORDS)
 }
 
 pub(crate) fn is_label(name: &[u8], label: &[u8]) -> bool
@@ -83,14 +93,32 @@ pub(crate) fn is_label(name: &[u8], label: &[u8]) -> bool
     is_name(label) && label != name && label != b"c".as_slice() && !is_reserved(label)
 }
 
+// Whether these are decimal digits with no leading zero.
+fn is_plain_numeral(digits: &[u8]) -> bool
+    ensures { IsTrue result ↔ IsPlainNumeral digits.now }
+{
+    match digits.split_first() {
+        Some((first, rest)) => (*first != b'0' || rest.is_empty()) && digits.iter().all(|digit| digit.is_ascii_digit()),
+        None => false,
+    }
+}
+
+fn value_of(digits: &[u8]) -> Option<u32>
+    requires { IsPlainNumeral digits.now }
+    ensures { SomeIff result (IsInt (digits_value 10 digits.now)) (digits_value 10 digits.now) }
+{
+    let Ok(text) = str::from_utf8(digits) else {
+        return None;
+    };
+    match text.parse() {
+        Ok(number) if number <= GREATEST_NUMBER => Some(number),
+        _ => None,
+    }
+}
+
 // The number that these digits write, with no sign and no leading zero.
 pub(crate) fn number_of(digits: &[u8]) -> Option<u32>
     ensures { MatchOption result ((n : ℕ) → IsInt n → digits.now ≢ decimal n) (λ n. IsInt n × (digits.now ≡ decimal n)) }
 {
-    if digits.len() > 1 && digits[0] == b'0' || !digits.iter().all(|digit| digit.is_ascii_digit()) {
-        return None;
-    }
-    let text = str::from_utf8(digits).ok()?;
-    let number: u32 = text.parse().ok()?;
-    if number <= GREATEST_NUMBER { Some(number) } else { None }
+    if is_plain_numeral(digits) { value_of(digits) } else { None }
 }
