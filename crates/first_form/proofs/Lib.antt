@@ -1,3 +1,6 @@
+pub mod Fronts
 pub mod TextLines
 pub mod Numerals
 pub mod Members
+pub mod CallLines
+pub mod LongestRuns

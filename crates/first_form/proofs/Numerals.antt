@@ -2,15 +2,15 @@
 use Rattle.std.proofs.Common.{◌≡◌, ◌≢◌, ℕ, zero, suc, ◌+◌, ◌<◌, ◌≤◌, ◌^◌, List, [], ◌∷◌, ◌++◌, length, get_or, refl, sym, ap, subst, arith, ◌∙◌, ◌⊎◌, inl, inr, Result, Ok, Err, Option, Some, None}
 use Rattle.std.specs.List.{All}
 use Rattle.std.specs.Fmt.{decimal}
-use Rattle.std.specs.Char.{IsAsciiDigit}
+use Rattle.std.specs.Char.{IsAsciiDigit, IsAsciiLowercase}
 use Rattle.std.specs.Str.{IsAscii, IsUtf8}
 use Rattle.std.specs.Str.Parse.{AllDigits, digits_value, ParsesUnsigned}
 use Rattle.std.specs.Option.{MatchOption, SomeIff}
-use Rattle.std.proofs.lemmas.List.Elements.{All-from_get_or, All-get_or}
+use Rattle.std.proofs.lemmas.List.Elements.{All-from_get_or, All-get_or, All-head, All-tail}
 use Rattle.std.proofs.lemmas.Str.Parse.{IsNumeralModel, numerals_by_value, tells_digits, tells_by_index, parse_gives}
 use Rattle.std.proofs.lemmas.Fmt.{decimal_is_IsNumeral, decimal_digit, first_decimal, decimal-digits_value, IsAscii-from_digits}
 use Rattle.std.proofs.lemmas.Str.{IsUtf8-from_ascii}
-use Rattle.first_form.specs.Words.{IsInt, IsPlainNumeral}
+use Rattle.first_form.specs.Words.{IsInt, IsName, IsPlainNumeral}
 
 pub own : IsNumeralModel (AllDigits 10) (digits_value 10)
 own = numerals_by_value (AllDigits 10) tells_digits
@@ -62,3 +62,11 @@ value_is_read ds (Some n) plain (small, e) = (omega arith, plain_decimal ds plai
 
 pub not_plain : (ds : List ℕ) (n : ℕ) → (IsPlainNumeral ds → ⊥) → IsInt n → ds ≢ decimal n
 not_plain ds n none small e = none (subst IsPlainNumeral (sym e) (decimal_plain n small))
+
+letters_ascii : (word : List ℕ) → All IsAsciiLowercase word → IsAscii word
+letters_ascii [] h i = omega arith
+letters_ascii (letter ∷ word) h zero = let low : IsAsciiLowercase letter = All-head IsAsciiLowercase letter word h in omega arith
+letters_ascii (letter ∷ word) h (suc i) = letters_ascii word (All-tail IsAsciiLowercase letter word h) i
+
+pub name_utf8 : (word : List ℕ) → IsName word → IsUtf8 word
+name_utf8 word h = IsUtf8-from_ascii word (letters_ascii word h.letters)

@@ -4,6 +4,8 @@ ghost use Rattle.std.specs.Prelude.{◌≡◌, ◌≢◌, ℕ, ◌+◌, ◌<◌,
 ghost use Rattle.std.specs.Str.Lines.{strip_carriage_return};
 ghost use Rattle.first_form.specs.Lines.{is_blank, without_leading_blanks, trimmed, text_lines};
 
+use crate::ends::cut;
+
 fn is_blank(byte: u8) -> bool
     ensures { result ≡ is_blank byte }
 {
@@ -48,18 +50,6 @@ fn without_carriage_return(line: &[u8]) -> &[u8]
         Some((last, front)) if *last == b'\r' => front,
         _ => line,
     }
-}
-
-// What stands before the first such byte, and what stands behind it.
-pub(crate) fn cut(bytes: &[u8], at: u8) -> Option<(&[u8], &[u8])>
-    ensures { MatchOption result (All (λ b. b ≢ at) bytes.now) (λ x. (bytes.now ≡ x.0.now ++ (at ∷ x.1.now)) × All (λ b. b ≢ at) x.0.now) }
-{
-    for (index, byte) in bytes.iter().enumerate() {
-        if *byte == at {
-            return Some((&bytes[..index], &bytes[index + 1..]));
-        }
-    }
-    None
 }
 
 // The first line of a text, and the text behind it.

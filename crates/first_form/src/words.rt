@@ -1,12 +1,15 @@
 //! Names, labels and numbers.
 
-ghost use Rattle.std.specs.Prelude.{◌≡◌, ◌≢◌, ℕ, ◌++◌, List, MatchOption, IsTrue, ◌↔◌, Contains, codes};
+ghost use Rattle.std.specs.Prelude.{◌≡◌, ◌≢◌, ℕ, ◌++◌, List, MatchOption, IfOk, IsTrue, ◌↔◌, Contains, codes};
 ghost use Rattle.std.specs.Fmt.{decimal};
 ghost use Rattle.std.specs.List.{list_any};
 ghost use Rattle.std.specs.Str.{bytes_eq};
 ghost use Rattle.std.specs.Option.{SomeIff};
 ghost use Rattle.std.specs.Str.Parse.{digits_value};
 ghost use Rattle.first_form.specs.Words.{IsName, IsLabel, IsInt, IsPlainNumeral, reserved_words};
+
+use jf_base::{Memory, Text};
+use std::alloc::Global;
 
 const GREATEST_NUMBER: u32 = 2_147_483_647;
 
@@ -121,4 +124,17 @@ pub(crate) fn number_of(digits: &[u8]) -> Option<u32>
     ensures { MatchOption result ((n : ℕ) → IsInt n → digits.now ≢ decimal n) (λ n. IsInt n × (digits.now ≡ decimal n)) }
 {
     if is_plain_numeral(digits) { value_of(digits) } else { None }
+}
+
+pub(crate) fn label_text(alloc: Global, label: &[u8]) -> Result<Text, Memory>
+    requires { IsName label.now }
+    ensures { IfOk result (λ text. text ≡ label.now) }
+{
+    match str::from_utf8(label) {
+        Ok(text) => {
+            let text = Text::from_text(alloc, text)?;
+            Ok(text)
+        }
+        Err(_) => unreachable!(),
+    }
 }
