@@ -1,10 +1,13 @@
 -- Lines that call.
-use Rattle.std.proofs.Common.{◌≡◌, ◌≢◌, ℕ, ◌^◌, ◌<◌, List, [], ◌∷◌, ◌++◌, Option, Some, None, refl, sym, ap, ◌∙◌, codes, arith}
+use Rattle.std.proofs.Common.{◌≡◌, ◌≢◌, ℕ, ◌^◌, ◌<◌, List, [], ◌∷◌, ◌++◌, Option, Some, None, refl, sym, ap, ◌∙◌, codes, arith, get_or, map}
+use Rattle.std.specs.List.{All}
 use Rattle.std.specs.Option.{MatchOption}
 use Rattle.std.specs.Fmt.{decimal}
 use Rattle.std.proofs.lemmas.Fmt.{decimal_injective}
 use Rattle.first_form.specs.Words.{IsInt}
 use Rattle.first_form.specs.Forms.{call_line, end_line}
+use Rattle.first_form.specs.Runs.{spelled, call_before, IsLongestRun}
+use Rattle.first_form.proofs.LongestRuns.{longest_run, spelled_lines}
 use Rattle.first_form.proofs.Fronts.{rest_of, start_of, head_of, tail_of}
 
 -- what stands behind the label
@@ -35,4 +38,23 @@ call_line_injective label m n hm hn e =
 -- the last line calls nothing
 pub end_is_no_call : (label : List ℕ) (n : ℕ) → end_line ≢ call_line label n
 unfolding call_line end_line
-end_is_no_call label n e = cc
+end_is_no_call label n e = let first : ◌≡◌ {A = ℕ} 101 99 = ap (λ (l : List ℕ). get_or l 0 0) e in omega arith
+
+-- one call in front of lines
+pub one_call : (label : List ℕ) (m n : ℕ) (r s : List (List ℕ)) → IsInt m → IsInt n → call_before label m r ≡ call_before label n s → (m ≡ n) × (r ≡ s)
+one_call label m n r s hm hn e = (call_line_injective label m n hm hn (head_of refl e), tail_of refl e)
+
+-- no call stands at the end of the program
+pub no_call_at_end : (label : List ℕ) (n : ℕ) (rest : List (List ℕ)) → IsInt n → (end_line ∷ []) ≢ call_before label n rest
+no_call_at_end label n rest h e = end_is_no_call label n (head_of refl e)
+
+-- the calls that are read are those that the text has
+pub calls_are_read : (label : List ℕ) (text : List (List ℕ)) (calls others : List ℕ) (rest : List (List ℕ)) → IsLongestRun (call_before label) IsInt text calls rest → All IsInt others
+  → text ≡ map (call_line label) others ++ (end_line ∷ []) → (calls ≡ others) × (rest ≡ end_line ∷ [])
+calls_are_read label text calls others rest run small e =
+  longest_run (call_before label) IsInt (one_call label) text calls others rest (end_line ∷ []) run small (no_call_at_end label)
+    (e ∙ sym (spelled_lines (call_line label) others (end_line ∷ [])))
+
+pub calls_are_there : (label : List ℕ) (text : List (List ℕ)) (calls : List ℕ) (rest : List (List ℕ)) → IsLongestRun (call_before label) IsInt text calls rest → rest ≡ end_line ∷ []
+  → text ≡ map (call_line label) calls ++ (end_line ∷ [])
+calls_are_there label text calls rest run e = run.spelling ∙ (ap (spelled (call_before label) calls) e ∙ spelled_lines (call_line label) calls (end_line ∷ []))

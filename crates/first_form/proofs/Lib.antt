@@ -4,3 +4,5 @@ pub mod Numerals
 pub mod Members
 pub mod CallLines
 pub mod LongestRuns
+pub mod FortranTexts
+pub mod PutTexts

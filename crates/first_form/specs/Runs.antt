@@ -1,6 +1,7 @@
 -- Items that stand one after another in front of a rest.
-use Rattle.std.specs.Prelude.{◌≡◌, ◌≢◌, ℕ, List, [], ◌∷◌, ◌++◌, All}
-use Rattle.first_form.specs.Forms.{call_line, put_text}
+use Rattle.std.specs.Prelude.{◌≡◌, ◌≢◌, ℕ, List, [], ◌∷◌, ◌++◌, ◌⊎◌, All, map}
+use Rattle.std.specs.List.{flat_map}
+use Rattle.first_form.specs.Forms.{call_line, put_text, closing_text}
 use Rattle.first_form.specs.declared.program.PutcharArgument.{PutcharArgument}
 
 -- `spell` writes one item in front of a rest
@@ -22,3 +23,7 @@ put_line_before argument lines = put_text argument ∷ lines
 
 abbrev pub put_before : PutcharArgument → List ℕ → List ℕ
 put_before argument text = put_text argument ++ text
+
+-- The statements on the lines that follow, where nothing stands behind the brace that opens the function, or on that brace's line, where no line follows.
+abbrev pub ArePutsBehind : List ℕ → List (List ℕ) → List PutcharArgument → Type 0
+ArePutsBehind body rest puts = ((body ≡ []) × (rest ≡ map put_text puts ++ (closing_text ∷ []))) ⊎ ((rest ≡ []) × (body ≡ flat_map put_text puts ++ closing_text))

@@ -11,7 +11,7 @@ use crate::ends::{after, between};
 use crate::lines::{after_line, first_line, is_only_line};
 use crate::words::{is_label, is_name, label_text, number_of};
 use jf_base::{List, Memory, Text};
-use std::alloc::Global;
+use std::alloc::{AllocError, Global};
 
 const MOST_CALLS: usize = 100;
 
@@ -69,7 +69,7 @@ fn first_call<'a>(text: &'a [u8], label: &[u8]) -> Option<(u32, &'a [u8])>
 }
 
 // The calls at the front of a text, and the text behind them.
-fn read_calls<'a>(alloc: Global, text: &'a [u8], label: &[u8]) -> Result<(Vec<u32>, &'a [u8]), Memory>
+fn read_calls<'a>(alloc: Global, text: &'a [u8], label: &[u8]) -> Result<(Vec<u32>, &'a [u8]), AllocError>
     ensures { IfOk result (λ x. IsLongestRun (call_before label.now) IsInt (text_lines text.now) x.0.items (text_lines x.1.now)) }
 {
     let mut calls = Vec::new(alloc);

@@ -1,6 +1,7 @@
 //! Programs of the first form: a Fortran main program that calls one C function, which puts characters.
 #![tactic(auto)]
 
+mod c;
 mod ends;
 mod fortran;
 mod lines;
@@ -8,6 +9,7 @@ mod pair;
 mod program;
 mod words;
 
+pub use c::read_c;
 pub use fortran::{FortranForm, read_fortran};
 pub use pair::Reading;
 pub use program::{FirstProgram, PutcharArgument};
