@@ -1,5 +1,5 @@
 -- What texts begin and end with.
-use Rattle.std.proofs.Common.{◌≡◌, ◌≢◌, ℕ, List, [], ◌∷◌, ◌++◌, Option, Some, None, refl, sym, ap, ◌∙◌}
+use Rattle.std.proofs.Common.{◌≡◌, ◌≢◌, ℕ, List, [], ◌∷◌, ◌++◌, Option, Some, None, length, arith, refl, sym, ap, ◌∙◌}
 use Rattle.std.specs.Option.{MatchOption}
 use Rattle.std.specs.Borrow.{Bor}
 use Rattle.std.proofs.lemmas.List.{append_cancel_left, append_cancel_right}
@@ -21,3 +21,7 @@ pub between_is : (text front end rest : List ℕ) (r : Option (Bor (List ℕ))) 
   → MatchOption r ((x : List ℕ) → text ≢ front ++ (x ++ end)) (λ x. text ≡ front ++ (x.now ++ end))
 between_is text front end rest None e none = λ x h. none x (rest_of front text rest (x ++ end) e h)
 between_is text front end rest (Some x) e some = e ∙ ap (λ (y : List ℕ). front ++ y) some
+
+pub is_nothing : (text : List ℕ) → length text ≡ 0 → text ≡ []
+is_nothing [] e = refl
+is_nothing (byte ∷ text) e = absurd (omega arith)

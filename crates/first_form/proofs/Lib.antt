@@ -6,3 +6,4 @@ pub mod CallLines
 pub mod LongestRuns
 pub mod FortranTexts
 pub mod PutTexts
+pub mod CTexts
