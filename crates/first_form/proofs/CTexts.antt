@@ -47,7 +47,7 @@ puts_behind bytes label body rest puts e h = elim h.lines [
   inl lines ↦ inl (append_cancel_left (opening_text label) body [] (head_of refl (tail_of e lines) ∙ sym (append-nil (opening_text label))) , tail_of refl (tail_of e lines))
   | inr lines ↦ inr (tail_of refl (tail_of e lines) , append_cancel_left (opening_text label) body (flat_map put_text puts ++ closing_text) (head_of refl (tail_of e lines))) ]
 
-never_empty : (text : List ℕ) → [] ≢ text ++ closing_text
+pub never_empty : (text : List ℕ) → [] ≢ text ++ closing_text
 unfolding closing_text
 never_empty [] e = cc
 never_empty (byte ∷ text) e = cc

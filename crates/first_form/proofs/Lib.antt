@@ -7,3 +7,4 @@ pub mod LongestRuns
 pub mod FortranTexts
 pub mod PutTexts
 pub mod CTexts
+pub mod OneReading
