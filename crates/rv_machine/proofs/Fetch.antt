@@ -7,7 +7,7 @@ use Rattle.std.proofs.lemmas.List.{get_or_append_left, get_or_push}
 use Rattle.rv_isa.specs.declared.insn.Insn.{Insn}
 use Rattle.rv_isa.specs.Decode.{decode_of}
 use Rattle.rv_isa.specs.Encode.{IsEncodable}
-use Rattle.rv_isa.proofs.Kept.{decode-encode}
+use Rattle.rv_isa.proofs.Laws.{decode-encode}
 use Rattle.rv_machine.specs.declared.event.TrapKind.TheVariants as trap
 use Rattle.rv_machine.specs.State.{State}
 use Rattle.rv_machine.specs.Memory.{number_at}
