@@ -11,10 +11,6 @@ main_tokens p = 31 + 5 * length p.calls
 abbrev pub function_tokens : FirstProgram → ℕ
 function_tokens p = 8 + 5 * length p.puts
 
--- The tokens of both files. In Fortran a statement's end is a token here: 10 of them, and one for each call; so 41 and 6 for each call there, and 8 and 5 for each putchar in C. The line '#include <stdio.h>' counts none.
-abbrev pub tokens_of : FirstProgram → ℕ
-tokens_of p = 49 + 6 * length p.calls + 5 * length p.puts
-
 -- the bytes of a frame of a procedure of t tokens
 abbrev pub frame : (t : ℕ) → ℕ
 frame t = 1024 + 64 * t
