@@ -1,7 +1,13 @@
+//! Whole calls over the outside in memory.
+mod failures;
+mod outputs;
+mod refusals;
+
 use crate::fcc;
 use jf_outside::{MemoryLibrary, MemorySink, MemorySource};
 use program_image::Image;
 use std::alloc::{AllocError, Global};
+use std::process::Abort;
 use std::test::Fail;
 
 const FORTRAN: &str =
@@ -32,9 +38,10 @@ struct Outcome {
     kept: Option<Image>,
 }
 
+// A call of `fcc` with the words of this line.
 fn ran(
     alloc: Global,
-    words: &[&str],
+    line: &str,
     files: &[(&str, &str)],
     failing: Failing<'_>,
 ) -> Result<Outcome, Fail> {
@@ -46,7 +53,7 @@ fn ran(
         ))?;
     }
     let mut texts = Vec::new(alloc);
-    for word in words {
+    for word in line.split_whitespace() {
         texts.push(String::from_str(alloc, word)?)?;
     }
     let mut library = MemoryLibrary::new(listing, Vec::from_slice(alloc, failing.library)?);
@@ -79,32 +86,18 @@ fn pair<'a>(fortran: &'a str, c: &'a str) -> [(&'a str, &'a str); 2] {
     [("p.f90", fortran), ("q.c", c)]
 }
 
-#[test]
-fn the_letter_comes_out(rt: HostRuntime) -> Result<(), Fail> {
-    let run = ran(
-        rt.alloc(),
-        &["run", "p.f90", "q.c"],
-        &pair(FORTRAN, C),
-        NOTHING_FAILS,
-    )?;
-    assert_eq!(rt; run.status, 0);
-    assert_eq!(rt; run.out.as_slice(), b"A".as_slice());
-    assert_eq!(rt; run.err.as_slice(), b"stop 0\n".as_slice());
-    assert!(rt; run.kept.is_some());
-    Ok(())
-}
-
-#[test]
-fn a_step_is_too_few(rt: HostRuntime) -> Result<(), Fail> {
-    let run = ran(
-        rt.alloc(),
-        &["run", "p.f90", "--steps=1", "q.c"],
-        &pair(FORTRAN, C),
-        NOTHING_FAILS,
-    )?;
-    assert_eq!(rt; run.status, 204);
-    assert_eq!(rt; run.out.len(), 0);
-    assert_eq!(rt; run.err.as_slice(), b"step bound\n".as_slice());
-    assert!(rt; run.kept.is_some());
-    Ok(())
+// A call is to answer this status, write these bytes and this line, and keep an image or none.
+fn check(
+    rt: &impl Abort,
+    run: &Outcome,
+    told: &str,
+    status: u8,
+    out: &[u8],
+    err: &str,
+    kept: bool,
+) {
+    assert_eq!(rt; run.status, status, "{told}");
+    assert_eq!(rt; run.out.as_slice(), out, "{told}");
+    assert_eq!(rt; run.err.as_slice(), err.as_bytes(), "{told}");
+    assert_eq!(rt; run.kept.is_some(), kept, "{told}");
 }
