@@ -15,3 +15,6 @@ pub use numbers::{Width, bytes_of, fit, number_of, wrap};
 pub use place::{Limits, Memory, Place, Refusal};
 pub use tag::{Tag, tag_text};
 pub use text::Text;
+
+#[cfg(test)]
+mod tests;

@@ -1,0 +1,4 @@
+pub mod Endings
+pub mod Later
+pub mod Composes
+pub mod Back

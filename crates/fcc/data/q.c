@@ -1,0 +1,2 @@
+#include <stdio.h>
+void put(int c){putchar(c);}

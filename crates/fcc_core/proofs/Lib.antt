@@ -1,0 +1,5 @@
+pub mod ReadFiles
+pub mod Fronting
+pub mod Causing
+pub mod Answering
+pub mod Complete

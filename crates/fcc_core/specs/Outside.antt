@@ -1,0 +1,34 @@
+-- What can be told of the outside at one moment.
+use Rattle.std.specs.Prelude.{◌≡◌, ℕ, List, Option, Some}
+
+-- a library: its names with their bytes, where it tells them, and how often it has failed and was asked for a name that isn't listed
+pub record LibraryAt : Type 0 where
+  pub listing : Option (List (List ℕ × List ℕ))
+  pub faults : ℕ
+  pub strays : ℕ
+
+-- a source: the bytes left, where it tells them, and how often it has failed
+pub record SourceAt : Type 0 where
+  pub left : Option (List ℕ)
+  pub faults : ℕ
+
+-- a sink: the bytes held, where it tells them, and how often it has failed
+pub record SinkAt : Type 0 where
+  pub contents : Option (List ℕ)
+  pub faults : ℕ
+
+-- the objects that a call is handed, but for the error stream
+pub record Outside : Type 0 where
+  pub library : LibraryAt
+  pub input : SourceAt
+  pub out : SinkAt
+
+-- the library didn't fail, and where it tells its list it wasn't asked for another name
+pub record IsUntroubled (before after : LibraryAt) : Type 0 where
+  pub faults : after.faults ≡ before.faults
+  pub strays : (files : List (List ℕ × List ℕ)) → before.listing ≡ Some files → after.strays ≡ before.strays
+
+-- nothing was taken from the input or written to the output
+pub record IsIdle (before after : Outside) : Type 0 where
+  pub input : after.input ≡ before.input
+  pub out : after.out ≡ before.out

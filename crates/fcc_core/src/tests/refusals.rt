@@ -1,0 +1,100 @@
+use super::{C, FORTRAN, Failing, NOTHING_FAILS, check, pair, ran};
+use std::test::Fail;
+
+const MODULE: &str =
+    "module one\nuse iso_c_binding\nimplicit none\ninterface\nsubroutine put(c) bind(c)\nimport\ninteger(c_int), value :: c\nend subroutine\nend interface\ncall put(65_c_int)\nend program\n";
+
+const GET: &str = "#include <stdio.h>\nvoid get(int c){putchar(c);}\n";
+
+const FILES: [(&str, &str); 6] = [
+    ("p.f90", FORTRAN),
+    ("q.c", C),
+    ("r.c", C),
+    ("module.f90", MODULE),
+    ("empty.f90", ""),
+    ("get.c", GET),
+];
+
+const WORDS_OF_NOTHING: [&str; 10] = [
+    "",
+    "run",
+    "run --steps=1",
+    "run --steps=0 p.f90 q.c",
+    "run --steps=01 p.f90 q.c",
+    "run --steps=1 --steps=1 p.f90 q.c",
+    "run --heap=4096 p.f90 q.c",
+    "run p.f90 p.f90",
+    "run p.f90 q.h",
+    "check p.f90 q.c",
+];
+
+// The words, and the file that the library doesn't give.
+const ABSENT: [(&str, &str); 5] = [
+    ("run x.f90", "library x.f90\n"),
+    ("run x.f90 y.c", "library x.f90\n"),
+    ("run p.f90 y.c", "library y.c\n"),
+    ("run q.c p.f90 y.c", "library y.c\n"),
+    ("run module.f90 y.c --steps=1", "library y.c\n"),
+];
+
+// The words, and the first file that isn't what is due at its place, or the last where one is missing.
+const NOT_BUILT: [(&str, &str); 9] = [
+    ("run p.f90", "p.f90:1: X01\n"),
+    ("run q.c", "q.c:1: X01\n"),
+    ("run q.c p.f90", "q.c:1: X01\n"),
+    ("run p.f90 module.f90", "module.f90:1: X01\n"),
+    ("run p.f90 q.c r.c", "r.c:1: X01\n"),
+    ("run module.f90 q.c r.c", "r.c:1: X01\n"),
+    ("run module.f90 get.c", "module.f90:1: X01\n"),
+    ("run empty.f90 q.c", "empty.f90:1: X01\n"),
+    ("run p.f90 get.c", "get.c:1: X01\n"),
+];
+
+#[test]
+fn words_and_files_are_refused(rt: HostRuntime) -> Result<(), Fail> {
+    for line in WORDS_OF_NOTHING {
+        let run = ran(rt.alloc(), line, &FILES, NOTHING_FAILS)?;
+        check(&rt, &run, line, 200, b"", "words\n", false);
+    }
+    for (line, told) in ABSENT {
+        let run = ran(rt.alloc(), line, &FILES, NOTHING_FAILS)?;
+        check(&rt, &run, line, 201, b"", told, false);
+    }
+    for (line, told) in NOT_BUILT {
+        let run = ran(rt.alloc(), line, &FILES, NOTHING_FAILS)?;
+        check(&rt, &run, line, 202, b"", told, false);
+    }
+    Ok(())
+}
+
+#[test]
+fn the_first_text_of_another_form_is_told(rt: HostRuntime) -> Result<(), Fail> {
+    for (fortran, c, told) in [
+        (MODULE, C, "p.f90:1: X01\n"),
+        (MODULE, GET, "p.f90:1: X01\n"),
+        (FORTRAN, GET, "q.c:1: X01\n"),
+    ] {
+        let run = ran(
+            rt.alloc(),
+            "run p.f90 q.c",
+            &pair(fortran, c),
+            NOTHING_FAILS,
+        )?;
+        check(&rt, &run, told, 202, b"", told, false);
+    }
+    Ok(())
+}
+
+// A refusal whose line the error stream doesn't take.
+#[test]
+fn a_refusal_that_cannot_be_told(rt: HostRuntime) -> Result<(), Fail> {
+    let failing = Failing {
+        err: &[0],
+        ..NOTHING_FAILS
+    };
+    for line in ["run", "run x.f90", "run q.c p.f90", "run p.f90 get.c"] {
+        let run = ran(rt.alloc(), line, &FILES, failing)?;
+        check(&rt, &run, line, 208, b"", "", false);
+    }
+    Ok(())
+}

@@ -1,0 +1,11 @@
+pub mod Fronts
+pub mod TextLines
+pub mod Numerals
+pub mod Members
+pub mod CallLines
+pub mod LongestRuns
+pub mod FortranTexts
+pub mod PutTexts
+pub mod CTexts
+pub mod OneReading
+pub mod PlainLines

@@ -1,0 +1,3 @@
+pub mod Charges
+pub mod Joint
+pub mod Units

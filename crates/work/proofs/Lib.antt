@@ -1,0 +1,9 @@
+pub mod Laws
+pub mod Depth
+pub mod Whole
+pub mod Steps
+pub mod Settles
+pub mod Same
+pub mod Sheds
+pub mod Leads
+pub mod Like
