@@ -1,0 +1,123 @@
+-- Members laid out one by one.
+use Rattle.std.proofs.Common.{◌≡◌, ℕ, suc, ◌+◌, ◌-◌, ◌*◌, ◌/◌, ◌%◌, ◌<◌, ◌≤◌, ◌^◌, max, Option, Some, None, IsSome, is_some, unwrap_or, List, [], ◌∷◌, ◌++◌, All, length, refl, ap, sym, subst, ◌∙◌, arith, zero, append_assoc, append-nil}
+use Rattle.std.specs.Option.{option_and_then, option_map}
+use Rattle.jf_base.specs.declared.numbers.Width.{Width}
+use Rattle.jf_base.specs.declared.numbers.Width.TheVariants.{W1, W2, W4, W8}
+use Rattle.jf_base.specs.Numbers.{size_of_width}
+use Rattle.std.specs.Vec.Iter.{into_iter_items, into_iter_len}
+use Rattle.std.proofs.lemmas.Grind.{common_steps}
+use Rattle.std.proofs.Math.Nat.{lt-div-mul-add}
+use Rattle.c_types.specs.declared.ctype.CType.{CType}
+use Rattle.c_types.specs.declared.ctype.CType.TheOpen as c
+use Rattle.c_types.specs.declared.ctype.CType.TheOpen.{CType-F, Proto-F}
+use Rattle.c_types.specs.declared.ctype.Proto.{Proto}
+use Rattle.c_types.proofs.Induction.{by_layers, bare, Shown, answered, fold-bare}
+use Rattle.c_types.specs.declared.ctype.Layout.{Layout}
+use Rattle.c_types.specs.declared.ctype.Member.{Member}
+use Rattle.c_types.specs.Layouts.{Declared, rounded, align_or_one, size_or_none, placed, end_of_last, strictest, layout_of}
+use Rattle.c_types.specs.Sizes.{Bodies, alignment, align_step, layout_at, whole_size, at_most_limit, size_in}
+use Rattle.c_types.specs.Tables.{IsSmall, IsTable}
+
+-- rounding up: at or after, and by less than the alignment
+pub rounded-least : (end align : ℕ) → 1 ≤ align → end ≤ rounded end align
+rounded-least end align h = omega (arith, lt-div-mul-add {a = end + (align - 1)} {b = align} h)
+
+pub rounded-most : (end align : ℕ) → 1 ≤ align → rounded end align ≤ end + (align - 1)
+rounded-most end align h = grind arith
+
+-- what is still to be laid out leads to the layout of all
+pub record Laying (bodies : Bodies) (members : Declared) (done : List Member) (end align : ℕ) (rest : Declared) : Type 0 where
+  pub in_order : done ++ placed bodies end rest ≡ placed bodies 0 members
+  pub ends : end_of_last bodies end rest ≡ end_of_last bodies 0 members
+  pub strict : strictest bodies align rest ≡ strictest bodies 1 members
+  pub some_align : 1 ≤ align
+  pub most_align : align ≤ 8
+  pub sized : All (λ m. IsSome (size_in bodies m.1)) rest
+
+pub laying-start : (bodies : Bodies) (members : Declared) → All (λ m. IsSome (size_in bodies m.1)) members → Laying bodies members [] 0 1 members
+laying-start bodies members h = record { in_order = refl; ends = refl; strict = refl; some_align = omega arith; most_align = omega arith; sized = h }
+
+pub size_or_none-size_in : (bodies : Bodies) (kind : CType) → IsSome (size_in bodies kind) → unwrap_or (size_in bodies kind) 0 ≡ size_or_none bodies kind
+size_or_none-size_in bodies kind h = at_limit (whole_size bodies kind) h
+  where
+  at_limit : (w : Option ℕ) → IsSome (option_and_then at_most_limit w) → unwrap_or (option_and_then at_most_limit w) 0 ≡ unwrap_or w 0
+  at_limit None h = refl
+  at_limit (Some n) h = grind arith
+
+pub laying-step : (bodies : Bodies) (members : Declared) (done : List Member) (end align : ℕ) (name : ℕ) (kind : CType) (rest : Declared) (a size : ℕ) →
+    Laying bodies members done end align ((name, kind) ∷ rest) → a ≡ align_or_one bodies kind → size ≡ size_or_none bodies kind → 1 ≤ a → a ≤ 8 →
+    Laying bodies members (done ++ record { name = name; kind = kind; offset = rounded end a } ∷ []) (rounded end a + size) (max align a) rest
+laying-step bodies members done end align name kind rest a size l e s some most = record {
+  in_order = rw (e, s) (append_assoc done _ _ ∙ l.in_order);
+  ends = rw (e, s) l.ends;
+  strict = rw e l.strict;
+  some_align = omega arith;
+  most_align = omega arith;
+  sized = λ k d h. l.sized (suc k) d (omega arith);
+}
+
+abbrev IsAligned : Bodies → CType → Type 0
+IsAligned bodies kind = (1 ≤ align_or_one bodies kind) × (align_or_one bodies kind ≤ 8)
+
+abbrev Any : Proto → Type 0
+Any p = Unit {0}
+
+aligned_width : (w : Width) → (1 ≤ size_of_width w) × (size_of_width w ≤ 8)
+aligned_width W1 = (omega arith, omega arith)
+aligned_width W2 = (omega arith, omega arith)
+aligned_width W4 = (omega arith, omega arith)
+aligned_width W8 = (omega arith, omega arith)
+
+aligned_struct : (l : Option Layout) → ((k : Layout) → l ≡ Some k → IsSmall k) → (1 ≤ unwrap_or (option_map (λ k. k.align) l) 1) × (unwrap_or (option_map (λ k. k.align) l) 1 ≤ 8)
+aligned_struct None h = (omega arith, omega arith)
+aligned_struct (Some k) h = ((h k refl).some_align, (h k refl).most_align)
+
+aligned_step : (bodies : Bodies) → IsTable bodies → (y : Shown (IsAligned bodies) Any) →
+    let a = align_step bodies (answered (IsAligned bodies) Any (Option ℕ) (Unit {0}) (alignment bodies) (λ p. tt) y) in
+    (1 ≤ unwrap_or a 1) × (unwrap_or a 1 ≤ 8)
+aligned_step bodies t c.Void = (omega arith, omega arith)
+aligned_step bodies t c.Bool = (omega arith, omega arith)
+aligned_step bodies t (c.Int w s r) = aligned_width w
+aligned_step bodies t c.Char = (omega arith, omega arith)
+aligned_step bodies t (c.Enum n) = (omega arith, omega arith)
+aligned_step bodies t (c.Struct s) = aligned_struct (layout_at bodies s) (λ k e. t s k e)
+aligned_step bodies t (c.Pointer x) = (omega arith, omega arith)
+aligned_step bodies t (c.Array x n) = x.1
+aligned_step bodies t (c.Function p) = (omega arith, omega arith)
+aligned_step bodies t c.Descriptor = (omega arith, omega arith)
+aligned_step bodies t (c.Cdesc r) = (omega arith, omega arith)
+aligned_step bodies t (c.Const x) = x.1
+
+pub aligned : (bodies : Bodies) → IsTable bodies → (kind : CType) → IsAligned bodies kind
+aligned bodies t = by_layers (IsAligned bodies) Any
+    (λ y. subst (λ a. (1 ≤ unwrap_or a 1) × (unwrap_or a 1 ≤ 8)) (sym (fold-bare (IsAligned bodies) Any (Option ℕ) (Unit {0}) (align_step bodies) (λ p. tt) y)) (aligned_step bodies t y))
+    (λ y. tt)
+
+-- nothing ends past the last member's end
+pub end_of_last-least : (bodies : Bodies) → IsTable bodies → (end : ℕ) (members : Declared) → end ≤ end_of_last bodies end members
+end_of_last-least bodies t end [] = omega arith
+end_of_last-least bodies t end (m ∷ ms) =
+    let a : ℕ = align_or_one bodies m.1 in
+    omega (arith, rounded-least end (align_or_one bodies m.1) (aligned bodies t m.1).0, end_of_last-least bodies t (rounded end (align_or_one bodies m.1) + size_or_none bodies m.1) ms)
+
+pub strictest-least : (bodies : Bodies) (align : ℕ) (members : Declared) → align ≤ strictest bodies align members
+strictest-least bodies align [] = omega arith
+strictest-least bodies align (m ∷ ms) = omega (arith, strictest-least bodies (max align (align_or_one bodies m.1)) ms)
+
+pub laying-within : (bodies : Bodies) → IsTable bodies → (members : Declared) (done : List Member) (end align : ℕ) (rest : Declared) → Laying bodies members done end align rest → (layout_of bodies members).size ≤ 2 ^ 62 → end ≤ 2 ^ 62
+laying-within bodies t members done end align rest l h =
+    omega (arith, l.ends, end_of_last-least bodies t end rest, rounded-least (end_of_last bodies 0 members) (strictest bodies 1 members) (strictest-least bodies 1 members), h)
+
+-- the place of the next member, and its end
+pub laying-next : (bodies : Bodies) → IsTable bodies → (members : Declared) (done : List Member) (end align : ℕ) (m : ℕ × CType) (rest : Declared) → Laying bodies members done end align (m ∷ rest) → (layout_of bodies members).size ≤ 2 ^ 62 →
+    rounded end (align_or_one bodies m.1) + size_or_none bodies m.1 ≤ 2 ^ 62
+laying-next bodies t members done end align m rest l h =
+    omega (arith, l.ends, end_of_last-least bodies t (rounded end (align_or_one bodies m.1) + size_or_none bodies m.1) rest, rounded-least (end_of_last bodies 0 members) (strictest bodies 1 members) (strictest-least bodies 1 members), h)
+
+pub laying-end : (bodies : Bodies) (members : Declared) (done : List Member) (end align : ℕ) → Laying bodies members done end align [] → record { members = done; size = rounded end align; align = align } ≡ layout_of bodies members
+laying-end bodies members done end align l = laid done end align (placed bodies 0 members) (end_of_last bodies 0 members) (strictest bodies 1 members) (sym (append-nil done) ∙ l.in_order) l.ends l.strict
+  where
+  made : List Member → ℕ → ℕ → Layout
+  made ms e a = record { members = ms; size = rounded e a; align = a }
+  laid : (ms : List Member) (e a : ℕ) (ns : List Member) (f b : ℕ) → ms ≡ ns → e ≡ f → a ≡ b → made ms e a ≡ made ns f b
+  laid ms e a ns f b p q r = cc

@@ -1,0 +1,11 @@
+//! The types of C as C11 has them where `int` has 4 bytes and `long` and pointers have 8: a file's table of structs, the
+//! sizes, alignments and members of its types, and when two types are compatible, in one file and between two.
+#![tactic(auto)]
+
+mod ctype;
+mod size;
+mod table;
+
+pub use ctype::{CType, Layout, Member, Proto, StructBody};
+pub use size::{align_of, size_of};
+pub use table::Types;
