@@ -1,3 +1,6 @@
 pub mod Induction
 pub mod SizeLemmas
 pub mod LayingOut
+pub mod Weights
+pub mod Settling
+pub mod Pairs

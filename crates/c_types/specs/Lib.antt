@@ -1,3 +1,5 @@
 pub mod Sizes
 pub mod Layouts
 pub mod Tables
+pub mod Compatible
+pub mod Adjusted

@@ -6,6 +6,8 @@ mod ctype;
 mod size;
 mod table;
 
+mod compatible;
+
 pub use ctype::{CType, Layout, Member, Proto, StructBody};
 pub use size::{align_of, size_of};
 pub use table::Types;

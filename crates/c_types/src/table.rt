@@ -44,6 +44,13 @@ impl Types {
         })
     }
 
+    /// How many structs there are.
+    pub fn count(&self) -> usize
+        ensures { result ≡ length self.now }
+    {
+        self.bodies.len()
+    }
+
     /// How the members of struct `s` lie: None exactly where it is incomplete or no struct of the table.
     pub fn layout(&self, s: u32) -> Option<&Layout>
         ensures found { option_copied result ≡ layout_at self.now s }
