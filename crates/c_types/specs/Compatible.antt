@@ -1,5 +1,5 @@
 -- When two types are compatible: C11's relation for types of one file, and the rule for types of two files.
-use Rattle.std.specs.Prelude.{ℕ, ◌==◌, ◌&&◌, Bool, true, false, Option, Some, None, List, [], ◌∷◌, map, length, zero, suc, MatchOption}
+use Rattle.std.specs.Prelude.{ℕ, ◌==◌, ◌&&◌, Bool, true, false, Option, Some, None, List, [], ◌∷◌, map, min, length, zero, suc}
 use Rattle.jf_base.specs.declared.numbers.Width.{Width}
 use Rattle.jf_base.specs.Numbers.{size_of_width}
 use Rattle.c_types.specs.declared.ctype.CType.{CType, CType-F, fold-CType, out-CType}
@@ -122,10 +122,10 @@ layouts_alike same None _ = true
 layouts_alike same (Some l) None = true
 layouts_alike same (Some l) (Some k) = members_alike same l.members k.members
 
--- Two structs of two files: behind a pointer any two are alike, and elsewhere those whose members are. The number says how deep structs may still hold structs.
+-- Two structs of two files: behind a pointer any two are alike, and elsewhere those whose members are. The number says how deep structs may still hold structs; below that nothing is compared.
 abbrev pub structs_across : ℕ → Bodies → Bodies → Bool → ℕ → ℕ → Bool
 structs_across depth first second true s t = true
-structs_across zero first second false s t = false
+structs_across zero first second false s t = true
 structs_across (suc depth) first second false s t =
     let rule : Rule = record { enums = λ m n. true; structs = structs_across depth first second } in
     layouts_alike (compatible_by rule) (layout_at first s) (layout_at second t)
@@ -134,10 +134,15 @@ structs_across (suc depth) first second false s t =
 abbrev pub across_files : ℕ → Bodies → Bodies → Rule
 across_files depth first second = record { enums = λ m n. true; structs = structs_across depth first second }
 
-abbrev pub rule_for : ℕ → Bodies → Option Bodies → Rule
-rule_for depth first None = in_one_file
-rule_for depth first (Some second) = across_files depth first second
+abbrev pub rule_within : ℕ → Bodies → Option Bodies → Rule
+rule_within depth first None = in_one_file
+rule_within depth first (Some second) = across_files depth first second
 
--- whether a type of the first file and one of the same or of another file are compatible; no struct holds structs deeper than the file has structs
+-- a struct is laid out after those that it holds, so structs of two files hold structs no deeper than either file has structs
+abbrev pub rule_for : Bodies → Option Bodies → Rule
+rule_for first None = in_one_file
+rule_for first (Some second) = across_files (min (length first) (length second)) first second
+
+-- whether a type of the first file and one of the same or of another file are compatible
 abbrev pub are_compatible : Bodies → CType → Option Bodies → CType → Bool
-are_compatible first a other b = compatible_by (rule_for (length first) first other) a b
+are_compatible first a other b = compatible_by (rule_for first other) a b

@@ -1,7 +1,7 @@
 ghost use Rattle.std.specs.Prelude.{◌≡◌, ◌≤◌, false, true, length};
 ghost use Rattle.std.specs.Option.{option_copied};
 ghost use Rattle.c_types.specs.Adjusted.{IsAdjusted, IsNoLarger};
-ghost use Rattle.c_types.specs.Compatible.{adjusted, alike, are_compatible, compatible_by, is_int, rule_for, settled, settled_of_proto, alike_of_proto, members_alike};
+ghost use Rattle.c_types.specs.Compatible.{adjusted, alike, are_compatible, compatible_by, is_int, rule_within, settled, settled_of_proto, alike_of_proto, members_alike};
 
 use crate::ctype::{CType, Member, Proto};
 use crate::table::Types;
@@ -24,10 +24,14 @@ struct Files<'a> {
 pub fn compatible(t: &Types, a: &CType, other: Option<&Types>, b: &CType) -> bool
     ensures { result ≡ are_compatible t.now a.now (option_copied other.entry) b.now }
 {
+    let depth = match other {
+        None => 0,
+        Some(second) => t.count().min(second.count()),
+    };
     let files = Files {
         first: t,
         other,
-        depth: t.count(),
+        depth,
     };
     compare(&files, false, a, false, b, false)
 }
@@ -42,7 +46,7 @@ fn is_int_type(width: Width, signed: bool, rank: u8) -> bool
 /// Whether two types are compatible, each with const before it or without, behind a pointer or not.
 #[cycle(compare)]
 fn compare(files: &Files<'_>, behind: bool, a: &CType, a_const: bool, b: &CType, b_const: bool) -> bool
-    ensures { result ≡ alike (rule_for files.now.depth files.now.first.now (option_copied files.now.other)) (settled a.now a_const) behind (settled b.now b_const) }
+    ensures { result ≡ alike (rule_within files.now.depth files.now.first.now (option_copied files.now.other)) (settled a.now a_const) behind (settled b.now b_const) }
 {
     match (a, b) {
         (CType::Const(x), _) => compare(files, behind, x.get(), true, b, b_const),
@@ -67,7 +71,7 @@ fn compare(files: &Files<'_>, behind: bool, a: &CType, a_const: bool, b: &CType,
 /// Whether two functions' results and parameters are compatible.
 #[cycle(compare)]
 fn compare_protos(files: &Files<'_>, behind: bool, f: &Proto, g: &Proto) -> bool
-    ensures { result ≡ alike_of_proto (rule_for files.now.depth files.now.first.now (option_copied files.now.other)) (settled_of_proto f.now) behind (settled_of_proto g.now) }
+    ensures { result ≡ alike_of_proto (rule_within files.now.depth files.now.first.now (option_copied files.now.other)) (settled_of_proto f.now) behind (settled_of_proto g.now) }
 {
     if !compare(files, behind, &f.result, false, &g.result, false) {
         return false;
@@ -116,7 +120,7 @@ fn adjust(c: &CType, is_const: bool) -> Adjusted<'_>
 /// Whether the adjusted types of two parameters are compatible.
 #[cycle(compare)]
 fn compare_parameters(files: &Files<'_>, behind: bool, a: &CType, b: &CType) -> bool
-    ensures { result ≡ alike (rule_for files.now.depth files.now.first.now (option_copied files.now.other)) (adjusted (settled a.now false)) behind (adjusted (settled b.now false)) }
+    ensures { result ≡ alike (rule_within files.now.depth files.now.first.now (option_copied files.now.other)) (adjusted (settled a.now false)) behind (adjusted (settled b.now false)) }
 {
     match (adjust(a, false), adjust(b, false)) {
         (Adjusted::PointerTo(x, x_const), Adjusted::PointerTo(y, y_const)) => compare(files, true, x, x_const, y, y_const),
@@ -128,17 +132,14 @@ fn compare_parameters(files: &Files<'_>, behind: bool, a: &CType, b: &CType) -> 
 /// Whether two structs are compatible, behind a pointer or not.
 #[cycle(compare)]
 fn compare_structs(files: &Files<'_>, behind: bool, s: u32, t: u32) -> bool
-    ensures { result ≡ (rule_for files.now.depth files.now.first.now (option_copied files.now.other)).structs behind s t }
+    ensures { result ≡ (rule_within files.now.depth files.now.first.now (option_copied files.now.other)).structs behind s t }
 {
     let second = match files.other {
         None => return s == t,
         Some(second) => second,
     };
-    if behind {
+    if behind || files.depth == 0 {
         return true;
-    }
-    if files.depth == 0 {
-        return false;
     }
     match (files.first.layout(s), second.layout(t)) {
         (Some(ours), Some(theirs)) => {
@@ -152,7 +153,7 @@ fn compare_structs(files: &Files<'_>, behind: bool, s: u32, t: u32) -> bool
 /// Whether two structs have as many members that are compatible in order.
 #[cycle(compare)]
 fn compare_members(files: &Files<'_>, ours: &[Member], theirs: &[Member]) -> bool
-    ensures { result ≡ members_alike (compatible_by (rule_for files.now.depth files.now.first.now (option_copied files.now.other))) ours.now theirs.now }
+    ensures { result ≡ members_alike (compatible_by (rule_within files.now.depth files.now.first.now (option_copied files.now.other))) ours.now theirs.now }
 {
     if ours.len() != theirs.len() {
         return false;

@@ -2,7 +2,7 @@ use Rattle.std.proofs.Common.{◌≡◌, ◌&&◌, ◌<◌, Bool, true, false, d
 use Rattle.std.specs.Option.{option_copied}
 use Rattle.c_types.specs.declared.ctype.CType.{CType}
 use Rattle.c_types.specs.declared.ctype.Member.{Member}
-use Rattle.c_types.specs.Compatible.{adjusted, alike, compatible_by, rule_for, settled, pairs_alike}
+use Rattle.c_types.specs.Compatible.{adjusted, alike, compatible_by, rule_within, settled, pairs_alike}
 use Rattle.c_types.proofs.Pairs.{pairs-lengths, pairs-differ, pairs-go_on, pairs-end}
 use Rattle.c_types.proofs.Settling.{params_alike, protos_alike, same_at, structs-held}
 use Rattle.c_types.proofs.Weights.{most-member, falls-held}
@@ -10,7 +10,7 @@ use Rattle.c_types.proofs.compatible.+compare.Goals as goal
 
 pub compare_members-returns-then-ours-theirs : goal.compare_members-returns-then-ours-theirs
 compare_members-returns-then-ours-theirs t c =
-    pairs-lengths (λ (m n : Member). compatible_by (rule_for c.args.files.now.depth c.args.files.now.first.now (option_copied c.args.files.now.other)) m.kind n.kind) c.args.ours.now c.args.theirs.now c.if-ours-theirs.true
+    pairs-lengths (λ (m n : Member). compatible_by (rule_within c.args.files.now.depth c.args.files.now.first.now (option_copied c.args.files.now.other)) m.kind n.kind) c.args.ours.now c.args.theirs.now c.if-ours-theirs.true
 
 pub compare_members-loop-i-init : goal.compare_members-loop-i-init
 compare_members-loop-i-init t c = record { lengths = c.if-ours-theirs.false; rest = refl }
@@ -18,22 +18,22 @@ compare_members-loop-i-init t c = record { lengths = c.if-ours-theirs.false; res
 pub compare_members-returns-then-not-compare : goal.compare_members-returns-then-not-compare
 compare_members-returns-then-not-compare t c =
     let at = c.loop-i in
-    pairs-differ (λ (m n : Member). compatible_by (rule_for c.args.files.now.depth c.args.files.now.first.now (option_copied c.args.files.now.other)) m.kind n.kind)
-        c.args.ours.now c.args.theirs.now at.i c.index-ours-i.result c.index-theirs-i.result c.loop-i-test.true at.invariant.lengths c.index-ours-i.is c.index-theirs-i.is at.invariant.rest (same_at (rule_for c.args.files.now.depth c.args.files.now.first.now (option_copied c.args.files.now.other)) _ _ _ _ _ _ c.index-ours-i.is c.index-theirs-i.is c.compare.ensures c.if-not-compare.true)
+    pairs-differ (λ (m n : Member). compatible_by (rule_within c.args.files.now.depth c.args.files.now.first.now (option_copied c.args.files.now.other)) m.kind n.kind)
+        c.args.ours.now c.args.theirs.now at.i c.index-ours-i.result c.index-theirs-i.result c.loop-i-test.true at.invariant.lengths c.index-ours-i.is c.index-theirs-i.is at.invariant.rest (same_at (rule_within c.args.files.now.depth c.args.files.now.first.now (option_copied c.args.files.now.other)) _ _ _ _ _ _ c.index-ours-i.is c.index-theirs-i.is c.compare.ensures c.if-not-compare.true)
 
 pub compare_members-loop-i-preserved : goal.compare_members-loop-i-preserved
 compare_members-loop-i-preserved t c =
     let at = c.loop-i in
     record {
       lengths = at.invariant.lengths;
-      rest = pairs-go_on (λ (m n : Member). compatible_by (rule_for c.args.files.now.depth c.args.files.now.first.now (option_copied c.args.files.now.other)) m.kind n.kind)
-          c.args.ours.now c.args.theirs.now at.i c.index-ours-i.result c.index-theirs-i.result c.loop-i-test.true at.invariant.lengths c.index-ours-i.is c.index-theirs-i.is at.invariant.rest (same_at (rule_for c.args.files.now.depth c.args.files.now.first.now (option_copied c.args.files.now.other)) _ _ _ _ _ _ c.index-ours-i.is c.index-theirs-i.is c.compare.ensures c.if-not-compare.false);
+      rest = pairs-go_on (λ (m n : Member). compatible_by (rule_within c.args.files.now.depth c.args.files.now.first.now (option_copied c.args.files.now.other)) m.kind n.kind)
+          c.args.ours.now c.args.theirs.now at.i c.index-ours-i.result c.index-theirs-i.result c.loop-i-test.true at.invariant.lengths c.index-ours-i.is c.index-theirs-i.is at.invariant.rest (same_at (rule_within c.args.files.now.depth c.args.files.now.first.now (option_copied c.args.files.now.other)) _ _ _ _ _ _ c.index-ours-i.is c.index-theirs-i.is c.compare.ensures c.if-not-compare.false);
     }
 
 pub compare_members-returns : goal.compare_members-returns
 compare_members-returns t c =
     let at = c.loop-i in
-    sym (pairs-end (λ (m n : Member). compatible_by (rule_for c.args.files.now.depth c.args.files.now.first.now (option_copied c.args.files.now.other)) m.kind n.kind)
+    sym (pairs-end (λ (m n : Member). compatible_by (rule_within c.args.files.now.depth c.args.files.now.first.now (option_copied c.args.files.now.other)) m.kind n.kind)
         c.args.ours.now c.args.theirs.now at.i c.loop-i-test.false at.invariant.lengths) ∙ at.invariant.rest
 
 pub compare_structs-returns-in-Some-Some : goal.compare_structs-returns-in-Some-Some
@@ -56,7 +56,7 @@ compare_members-compare-requires t c =
 pub compare_protos-returns-then-not-compare_parameters : goal.compare_protos-returns-then-not-compare_parameters
 compare_protos-returns-then-not-compare_parameters t c =
     let at = c.loop-i in
-    let rule = rule_for c.args.files.now.depth c.args.files.now.first.now (option_copied c.args.files.now.other) in
+    let rule = rule_within c.args.files.now.depth c.args.files.now.first.now (option_copied c.args.files.now.other) in
     let differ = pairs-differ (λ (x y : CType). alike rule (adjusted (settled x false)) c.args.behind (adjusted (settled y false))) c.as_slice-ours.result.now c.as_slice-theirs.result.now at.i c.index-ours-i.result c.index-theirs-i.result c.loop-i-test.true at.invariant.lengths c.index-ours-i.is c.index-theirs-i.is at.invariant.rest
         (sym c.compare_parameters.ensures ∙ c.if-not-compare_parameters.true) in
     let alike_results = sym c.compare.ensures ∙ c.if-not-compare.false in
@@ -65,7 +65,7 @@ compare_protos-returns-then-not-compare_parameters t c =
 pub compare_protos-returns : goal.compare_protos-returns
 compare_protos-returns t c =
     let at = c.loop-i in
-    let rule = rule_for c.args.files.now.depth c.args.files.now.first.now (option_copied c.args.files.now.other) in
+    let rule = rule_within c.args.files.now.depth c.args.files.now.first.now (option_copied c.args.files.now.other) in
     let all = sym (pairs-end (λ (x y : CType). alike rule (adjusted (settled x false)) c.args.behind (adjusted (settled y false))) c.as_slice-ours.result.now c.as_slice-theirs.result.now at.i c.loop-i-test.false at.invariant.lengths) ∙ at.invariant.rest in
     let alike_results = sym c.compare.ensures ∙ c.if-not-compare.false in
     rw (protos_alike rule c.args.f.now c.args.g.now c.args.behind, alike_results, ← c.as_slice-ours.ensures, ← c.as_slice-theirs.ensures) all

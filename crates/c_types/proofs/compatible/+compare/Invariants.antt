@@ -2,7 +2,7 @@ use Rattle.std.proofs.Common.{◌≡◌, false, drop, length, ◌+◌, ◌*◌}
 use Rattle.std.specs.Option.{option_copied}
 use Rattle.c_types.specs.declared.ctype.CType.{size-CType}
 use Rattle.c_types.specs.declared.ctype.CType.TheViews.{size-Proto}
-use Rattle.c_types.specs.Compatible.{compatible_by, rule_for, members_alike}
+use Rattle.c_types.specs.Compatible.{compatible_by, rule_within, members_alike}
 use Rattle.c_types.proofs.Settling.{params_alike}
 use Rattle.c_types.proofs.Weights.{most, weight}
 use Rattle.c_types.proofs.compatible.+compare.Given as goal
@@ -25,13 +25,13 @@ decreases-compare_structs l = l.files.now.depth * weight l.files.now.first.now (
 abbrev pub invariant-compare_members-loop-i : goal.invariant-compare_members-loop-i
 invariant-compare_members-loop-i l = record {
   lengths : length l.ours ≡ length l.theirs;
-  rest : members_alike (compatible_by (rule_for l.files.depth l.files.first.now (option_copied l.files.other))) (drop l.i l.ours) (drop l.i l.theirs)
-      ≡ members_alike (compatible_by (rule_for l.files.depth l.files.first.now (option_copied l.files.other))) l.ours l.theirs;
+  rest : members_alike (compatible_by (rule_within l.files.depth l.files.first.now (option_copied l.files.other))) (drop l.i l.ours) (drop l.i l.theirs)
+      ≡ members_alike (compatible_by (rule_within l.files.depth l.files.first.now (option_copied l.files.other))) l.ours l.theirs;
 }
 
 abbrev pub invariant-compare_protos-loop-i : goal.invariant-compare_protos-loop-i
 invariant-compare_protos-loop-i l = record {
   lengths : length l.ours ≡ length l.theirs;
-  rest : params_alike (rule_for l.files.depth l.files.first.now (option_copied l.files.other)) l.behind (drop l.i l.ours) (drop l.i l.theirs)
-      ≡ params_alike (rule_for l.files.depth l.files.first.now (option_copied l.files.other)) l.behind l.ours l.theirs;
+  rest : params_alike (rule_within l.files.depth l.files.first.now (option_copied l.files.other)) l.behind (drop l.i l.ours) (drop l.i l.theirs)
+      ≡ params_alike (rule_within l.files.depth l.files.first.now (option_copied l.files.other)) l.behind l.ours l.theirs;
 }
