@@ -6,7 +6,7 @@ use Rattle.jf_base.specs.declared.numbers.Width.TheVariants.{W1, W2, W4, W8}
 use Rattle.jf_base.specs.Numbers.{size_of_width}
 use Rattle.std.specs.Vec.Iter.{into_iter_items, into_iter_len}
 use Rattle.std.proofs.lemmas.Grind.{common_steps}
-use Rattle.std.proofs.Math.Nat.{lt-div-mul-add}
+use Rattle.std.proofs.Math.Nat.{lt-div-mul-add, mul-mod_left}
 use Rattle.c_types.specs.declared.ctype.CType.{CType}
 use Rattle.c_types.specs.declared.ctype.CType.TheOpen as c
 use Rattle.c_types.specs.declared.ctype.CType.TheOpen.{CType-F, Proto-F}
@@ -16,7 +16,7 @@ use Rattle.c_types.specs.declared.ctype.Layout.{Layout}
 use Rattle.c_types.specs.declared.ctype.Member.{Member}
 use Rattle.c_types.specs.Layouts.{Declared, rounded, align_or_one, size_or_none, placed, end_of_last, strictest, layout_of}
 use Rattle.c_types.specs.Sizes.{Bodies, alignment, align_step, layout_at, whole_size, at_most_limit, size_in}
-use Rattle.c_types.specs.Tables.{IsSmall, IsTable}
+use Rattle.c_types.specs.Tables.{InOrder, IsSound, IsTable}
 
 -- rounding up: at or after, and by less than the alignment
 pub rounded-least : (end align : ℕ) → 1 ≤ align → end ≤ rounded end align
@@ -68,9 +68,9 @@ aligned_width W2 = (omega arith, omega arith)
 aligned_width W4 = (omega arith, omega arith)
 aligned_width W8 = (omega arith, omega arith)
 
-aligned_struct : (l : Option Layout) → ((k : Layout) → l ≡ Some k → IsSmall k) → (1 ≤ unwrap_or (option_map (λ k. k.align) l) 1) × (unwrap_or (option_map (λ k. k.align) l) 1 ≤ 8)
-aligned_struct None h = (omega arith, omega arith)
-aligned_struct (Some k) h = ((h k refl).some_align, (h k refl).most_align)
+aligned_struct : (bodies : Bodies) (l : Option Layout) → ((k : Layout) → l ≡ Some k → IsSound bodies k) → (1 ≤ unwrap_or (option_map (λ k. k.align) l) 1) × (unwrap_or (option_map (λ k. k.align) l) 1 ≤ 8)
+aligned_struct bodies None h = (omega arith, omega arith)
+aligned_struct bodies (Some k) h = ((h k refl).some_align, (h k refl).most_align)
 
 aligned_step : (bodies : Bodies) → IsTable bodies → (y : Shown (IsAligned bodies) Any) →
     let a = align_step bodies (answered (IsAligned bodies) Any (Option ℕ) (Unit {0}) (alignment bodies) (λ p. tt) y) in
@@ -80,7 +80,7 @@ aligned_step bodies t c.Bool = (omega arith, omega arith)
 aligned_step bodies t (c.Int w s r) = aligned_width w
 aligned_step bodies t c.Char = (omega arith, omega arith)
 aligned_step bodies t (c.Enum n) = (omega arith, omega arith)
-aligned_step bodies t (c.Struct s) = aligned_struct (layout_at bodies s) (λ k e. t s k e)
+aligned_step bodies t (c.Struct s) = aligned_struct bodies (layout_at bodies s) (λ k e. t s k e)
 aligned_step bodies t (c.Pointer x) = (omega arith, omega arith)
 aligned_step bodies t (c.Array x n) = x.1
 aligned_step bodies t (c.Function p) = (omega arith, omega arith)
@@ -121,3 +121,35 @@ laying-end bodies members done end align l = laid done end align (placed bodies 
   made ms e a = record { members = ms; size = rounded e a; align = a }
   laid : (ms : List Member) (e a : ℕ) (ns : List Member) (f b : ℕ) → ms ≡ ns → e ≡ f → a ≡ b → made ms e a ≡ made ns f b
   laid ms e a ns f b p q r = cc
+
+rounded-multiple : (end align : ℕ) → rounded end align % align ≡ 0
+rounded-multiple end align = mul-mod_left ((end + (align - 1)) / align) align
+
+some_size : (w : Option ℕ) → IsSome (option_and_then at_most_limit w) → IsSome w
+some_size None h = h
+some_size (Some n) h = refl
+
+-- members that are laid out lie in order
+pub placed_in_order : (bodies : Bodies) → IsTable bodies → (end : ℕ) (members : Declared) (size : ℕ) → All (λ m. IsSome (size_in bodies m.1)) members → end_of_last bodies end members ≤ size → InOrder bodies end (placed bodies end members) size
+placed_in_order bodies t end [] size h l = l
+placed_in_order bodies t end (m ∷ ms) size h l = (
+  rounded-least end (align_or_one bodies m.1) (aligned bodies t m.1).0,
+  rounded-multiple end (align_or_one bodies m.1),
+  some_size (whole_size bodies m.1) (h 0 m (omega arith)),
+  placed_in_order bodies t (rounded end (align_or_one bodies m.1) + size_or_none bodies m.1) ms size (λ k d b. h (suc k) d (omega arith)) l,
+)
+
+pub strictest-most : (bodies : Bodies) → IsTable bodies → (align : ℕ) (members : Declared) → align ≤ 8 → strictest bodies align members ≤ 8
+strictest-most bodies t align [] h = h
+strictest-most bodies t align (m ∷ ms) h = let a = aligned bodies t m.1 in strictest-most bodies t (max align (align_or_one bodies m.1)) ms (omega arith)
+
+pub sound_layout : (bodies : Bodies) → IsTable bodies → (members : Declared) → All (λ m. IsSome (size_in bodies m.1)) members → (layout_of bodies members).size ≤ 2 ^ 62 → IsSound bodies (layout_of bodies members)
+sound_layout bodies t members h l =
+    let least = strictest-least bodies 1 members in
+    record {
+      some_align = least;
+      most_align = strictest-most bodies t 1 members (omega arith);
+      most_size = l;
+      padded = rounded-multiple (end_of_last bodies 0 members) (strictest bodies 1 members);
+      in_order = placed_in_order bodies t 0 members (layout_of bodies members).size h (rounded-least (end_of_last bodies 0 members) (strictest bodies 1 members) least);
+    }

@@ -4,3 +4,4 @@ pub mod LayingOut
 pub mod Weights
 pub mod Settling
 pub mod Pairs
+pub mod Growing

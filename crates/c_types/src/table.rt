@@ -3,7 +3,7 @@ ghost use Rattle.std.specs.List.{IsDistinct};
 ghost use Rattle.std.specs.Option.{option_copied};
 ghost use Rattle.c_types.specs.Layouts.{align_or_one, layout_of, member_among, member_at, rounded, size_or_none};
 ghost use Rattle.c_types.specs.Sizes.{layout_at, size_in};
-ghost use Rattle.c_types.specs.Tables.{IsSmall};
+ghost use Rattle.c_types.specs.Tables.{IsSound, Keeps};
 
 use crate::ctype::{CType, Layout, Member, StructBody};
 use crate::size::{align_of, size_of};
@@ -54,7 +54,7 @@ impl Types {
     /// How the members of struct `s` lie: None exactly where it is incomplete or no struct of the table.
     pub fn layout(&self, s: u32) -> Option<&Layout>
         ensures found { option_copied result ≡ layout_at self.now s }
-        ensures small { IfSome result (λ l. IsSmall l.now) }
+        ensures sound { IfSome result (λ l. IsSound self.now l.now) }
     {
         match layout_among(self.bodies.as_slice(), s) {
             None => None,
@@ -66,16 +66,17 @@ impl Types {
     pub fn add_struct(&mut self) -> Result<u32, Memory>
         ensures number { IfOk result (λ s. s ≡ length self.old) }
         ensures added { OnOk result (self.new ≡ self.old ++ StructBody.Incomplete ∷ []) }
+        ensures kept { OnOk result (Keeps self.old self.new) }
         ensures err { OnErr result (self.new ≡ self.old) }
     {
         let s = self.bodies.len();
         if s >= 4_294_967_296 {
             return Err(Memory);
         }
-        match self.bodies.push(StructBody::Incomplete) {
-            Ok(()) => Ok(s as u32),
-            Err(_) => Err(Memory),
+        if let Err(_full) = self.bodies.push(StructBody::Incomplete) {
+            return Err(Memory);
         }
+        Ok(s as u32)
     }
 
     /// Lays out the members of an incomplete struct, given by name and type in their order (C11 6.7.2.1p14, p15, p17). Where
@@ -85,6 +86,7 @@ impl Types {
         requires names { IsDistinct nat_eq (map (λ m. m.0) members.items) }
         requires sized { All (λ m. IsSome (size_in self.old m.1)) members.items }
         requires small { (layout_of self.old members.items).size ≤ 2 ^ 62 }
+        ensures kept { OnOk result (Keeps self.old self.new) }
         ensures laid_out { OnOk result (self.new ≡ slice_set self.old s (StructBody.Complete (layout_of self.old members.items))) }
         ensures err { OnErr result (self.new ≡ self.old) }
     {
@@ -98,7 +100,7 @@ impl Types {
         requires sized { All (λ m. IsSome (size_in self.now m.1)) members.items }
         requires small { (layout_of self.now members.items).size ≤ 2 ^ 62 }
         ensures laid_out { IfOk result (λ l. l ≡ layout_of self.now members.items) }
-        ensures small { IfOk result IsSmall }
+        ensures sound { IfOk result (IsSound self.now) }
     {
         let _table = &self.bodies;
         let mut laid = List::from_vec(Vec::new(alloc));

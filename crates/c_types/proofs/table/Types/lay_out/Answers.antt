@@ -1,8 +1,8 @@
-use Rattle.std.proofs.Common.{◌≡◌, ◌≤◌, ◌+◌, ◌∷◌, ◌^◌, length, ap, subst, sym, ◌∙◌, arith}
+use Rattle.std.proofs.Common.{◌≡◌, ◌≤◌, ◌+◌, List, [], ◌∷◌, refl, ◌^◌, length, ap, subst, sym, ◌∙◌, arith}
 use Rattle.std.specs.Vec.Iter.{into_iter_items}
 use Rattle.c_types.specs.Layouts.{rounded, align_or_one, size_or_none}
-use Rattle.c_types.specs.Tables.{IsTable}
-use Rattle.c_types.proofs.LayingOut.{Laying, laying-within, laying-next, laying-step}
+use Rattle.c_types.specs.Tables.{IsSound, IsTable}
+use Rattle.c_types.proofs.LayingOut.{Laying, laying-within, laying-next, laying-step, laying-end, sound_layout}
 use Rattle.c_types.proofs.table.Types.lay_out.Goals as goal
 
 pub round_up-offset-requires-clause-small : goal.round_up-offset-requires-clause-small
@@ -35,3 +35,17 @@ loop-name-preserved c =
       let short = ap length steps in
       omega arith,
     )
+
+nothing_left : {X : Type 0} (l : List X) → length l ≡ 0 → l ≡ []
+nothing_left [] h = refl
+nothing_left (x ∷ xs) h = absurd (omega arith)
+
+pub returns-clause-sound : goal.returns-clause-sound
+returns-clause-sound c =
+    let at = c.loop-name in
+    let table : IsTable c.args.self.now = subst IsTable c.self.view_is c.self.invariant in
+    let empty : into_iter_items at.name-iterator ≡ [] = nothing_left (into_iter_items at.name-iterator) (sym at.invariant.1 ∙ c.in-None.ensures.steps.0) in
+    let laying = subst (Laying c.args.self.now c.args.members.items at.laid at.end at.align) empty at.invariant.0 in
+    rw c.round_up.ensures
+        (subst (IsSound c.args.self.now) (sym (laying-end c.args.self.now c.args.members.items at.laid at.end at.align laying))
+            (sound_layout c.args.self.now table c.args.members.items c.requires.sized c.requires.small))
