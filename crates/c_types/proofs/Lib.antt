@@ -5,3 +5,4 @@ pub mod Weights
 pub mod Settling
 pub mod Pairs
 pub mod Growing
+pub mod AlikeLaws

@@ -35,7 +35,7 @@ settled_proto-is p =
     fold_out-Proto (Bool → CType) Proto settled_step settled_proto p
     ∙ ap (λ ps. let made : Proto = record { result = settled p.result false; params = ps } in made) (map-map settled (λ x. adjusted (x false)) p.params)
 
-alike_proto-is : (rule : Rule) (p q : Proto) (behind : Bool) → alike_of_proto rule p behind q ≡ (alike rule p.result behind q.result && pairs_alike (λ x y. alike rule x behind y) p.params q.params)
+pub alike_proto-is : (rule : Rule) (p q : Proto) (behind : Bool) → alike_of_proto rule p behind q ≡ (alike rule p.result behind q.result && pairs_alike (λ x y. alike rule x behind y) p.params q.params)
 alike_proto-is rule p q behind =
     ap (λ f. f behind q) (fold_out-Proto (Bool → CType → Bool) (Bool → Proto → Bool) (alike_step rule) alike_proto p)
     ∙ ap (λ b. alike rule p.result behind q.result && b) (pairs-map_first (λ x y. x behind y) (alike rule) p.params q.params)

@@ -4,8 +4,8 @@ use Rattle.c_types.specs.declared.ctype.CType.{CType, CType-F, out-CType, size-C
 use Rattle.c_types.specs.declared.ctype.CType.TheVariants.{Pointer}
 use Rattle.c_types.specs.declared.ctype.CType.TheOpen as c
 use Rattle.c_types.specs.declared.ctype.Proto.{Proto}
-use Rattle.c_types.specs.declared.compatible.Adjusted.{Adjusted}
-use Rattle.c_types.specs.declared.compatible.Adjusted.TheVariants.{PointerTo, Itself}
+use Rattle.c_types.specs.declared.compatibility.Adjusted.{Adjusted}
+use Rattle.c_types.specs.declared.compatibility.Adjusted.TheVariants.{PointerTo, Itself}
 use Rattle.c_types.specs.Compatible.{adjusted, settled}
 
 -- types that no adjustment and no qualifier changes

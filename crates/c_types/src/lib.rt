@@ -2,12 +2,14 @@
 //! sizes, alignments and members of its types, and when two types are compatible, in one file and between two.
 #![tactic(auto)]
 
+mod compatibility;
 mod ctype;
+mod laws;
 mod size;
 mod table;
 
-mod compatible;
-
+pub use compatibility::compatible;
 pub use ctype::{CType, Layout, Member, Proto, StructBody};
+pub use laws::{compatible_either_way, compatible_with_itself};
 pub use size::{align_of, size_of};
 pub use table::Types;

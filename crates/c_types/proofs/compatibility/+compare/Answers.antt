@@ -6,7 +6,7 @@ use Rattle.c_types.specs.Compatible.{adjusted, alike, compatible_by, rule_within
 use Rattle.c_types.proofs.Pairs.{pairs-lengths, pairs-differ, pairs-go_on, pairs-end}
 use Rattle.c_types.proofs.Settling.{params_alike, protos_alike, same_at, structs-held}
 use Rattle.c_types.proofs.Weights.{most-member, falls-held}
-use Rattle.c_types.proofs.compatible.+compare.Goals as goal
+use Rattle.c_types.proofs.compatibility.+compare.Goals as goal
 
 pub compare_members-returns-then-ours-theirs : goal.compare_members-returns-then-ours-theirs
 compare_members-returns-then-ours-theirs t c =

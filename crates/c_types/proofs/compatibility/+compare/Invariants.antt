@@ -5,7 +5,7 @@ use Rattle.c_types.specs.declared.ctype.CType.TheViews.{size-Proto}
 use Rattle.c_types.specs.Compatible.{compatible_by, rule_within, members_alike}
 use Rattle.c_types.proofs.Settling.{params_alike}
 use Rattle.c_types.proofs.Weights.{most, weight}
-use Rattle.c_types.proofs.compatible.+compare.Given as goal
+use Rattle.c_types.proofs.compatibility.+compare.Given as goal
 
 abbrev pub decreases-compare : goal.decreases-compare
 decreases-compare l = l.files.now.depth * weight l.files.now.first.now (option_copied l.files.now.other) + 2 * (size-CType l.a.now + size-CType l.b.now)
