@@ -79,11 +79,11 @@ flip_proto r s y behind g =
 flipped : (r s : Rule) → Flips r s → (a : CType) → Flipped r s a
 flipped r s f = by_layers (Flipped r s) (FlippedProto r s)
     (λ y behind b.
-        ap (λ g. g behind b) (fold-bare (Flipped r s) (FlippedProto r s) (Bool → CType → Bool) (Bool → Proto → Bool) (alike_step r) alike_proto y)
-        ∙ flip_layers r s f behind y (out-CType b)
-        ∙ sym (ap (λ g. g behind (bare (Flipped r s) (FlippedProto r s) y)) (fold_out-CType (Bool → CType → Bool) (Bool → Proto → Bool) (alike_step s) alike_proto b)
-            ∙ ap (alike_layers s behind (map-CType CType Proto (Bool → CType → Bool) (Bool → Proto → Bool) (alike s) (alike_of_proto s) (out-CType b)))
-                (out-roll-CType (answered (Flipped r s) (FlippedProto r s) CType Proto (λ k. k) (λ p. p) y))))
+    ap (λ g. g behind b) (fold-bare (Flipped r s) (FlippedProto r s) (Bool → CType → Bool) (Bool → Proto → Bool) (alike_step r) alike_proto y)
+    ∙ flip_layers r s f behind y (out-CType b)
+    ∙ sym (ap (λ g. g behind (bare (Flipped r s) (FlippedProto r s) y)) (fold_out-CType (Bool → CType → Bool) (Bool → Proto → Bool) (alike_step s) alike_proto b)
+    ∙ ap (alike_layers s behind (map-CType CType Proto (Bool → CType → Bool) (Bool → Proto → Bool) (alike s) (alike_of_proto s) (out-CType b)))
+    (out-roll-CType (answered (Flipped r s) (FlippedProto r s) CType Proto (λ k. k) (λ p. p) y))))
     (λ y. flip_proto r s y)
 
 one_file-flips : Flips in_one_file in_one_file
@@ -157,12 +157,12 @@ pairs-self_shown r behind (x ∷ xs) = both-true _ _ (x.1 behind) (pairs-self_sh
 self : (r : Rule) → Selfs r → (a : CType) → Self r a
 self r h = by_layers (Self r) (SelfProto r)
     (λ y behind.
-        ap (λ g. g behind (bare (Self r) (SelfProto r) y)) (fold-bare (Self r) (SelfProto r) (Bool → CType → Bool) (Bool → Proto → Bool) (alike_step r) alike_proto y)
-        ∙ ap (alike_layers r behind (answered (Self r) (SelfProto r) (Bool → CType → Bool) (Bool → Proto → Bool) (alike r) (alike_of_proto r) y)) (out-roll-CType (answered (Self r) (SelfProto r) CType Proto (λ k. k) (λ p. p) y))
-        ∙ self_layers r h behind y)
+    ap (λ g. g behind (bare (Self r) (SelfProto r) y)) (fold-bare (Self r) (SelfProto r) (Bool → CType → Bool) (Bool → Proto → Bool) (alike_step r) alike_proto y)
+    ∙ ap (alike_layers r behind (answered (Self r) (SelfProto r) (Bool → CType → Bool) (Bool → Proto → Bool) (alike r) (alike_of_proto r) y)) (out-roll-CType (answered (Self r) (SelfProto r) CType Proto (λ k. k) (λ p. p) y))
+    ∙ self_layers r h behind y)
     (λ y behind.
-        alike_proto-is r (bare_proto (Self r) (SelfProto r) y) (bare_proto (Self r) (SelfProto r) y) behind
-        ∙ both-true _ _ (y.result.1 behind) (pairs-self_shown r behind y.params))
+    alike_proto-is r (bare_proto (Self r) (SelfProto r) y) (bare_proto (Self r) (SelfProto r) y) behind
+    ∙ both-true _ _ (y.result.1 behind) (pairs-self_shown r behind y.params))
 
 pairs-self : {X : Type 0} (same : X → X → Bool) → ((x : X) → same x x ≡ true) → (xs : List X) → pairs_alike same xs xs ≡ true
 pairs-self same h [] = refl

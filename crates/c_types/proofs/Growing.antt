@@ -85,17 +85,16 @@ in_order_stays : (old new : Bodies) → Keeps old new → (end : ℕ) (ms : List
 in_order_stays old new k end [] size h = h
 in_order_stays old new k end (m ∷ ms) size h =
     let a : align_or_one new m.kind ≡ align_or_one old m.kind = same_or (alignment old m.kind) (alignment new m.kind) 1 (has_both old m.kind ∙ h.2) (k.alignments m.kind) in
-    let s : size_or_none new m.kind ≡ size_or_none old m.kind = same_or (whole_size old m.kind) (whole_size new m.kind) 0 h.2 (k.sizes m.kind) in
-    (
+    let s : size_or_none new m.kind ≡ size_or_none old m.kind = same_or (whole_size old m.kind) (whole_size new m.kind) 0 h.2 (k.sizes m.kind) in (
       h.0,
       rw a h.1,
       still (whole_size old m.kind) (whole_size new m.kind) h.2 (k.sizes m.kind),
       in_order_stays old new k (m.offset + size_or_none new m.kind) ms size (rw s h.3),
     )
   where
-  still : (a b : Option ℕ) → IsSome a → ((n : ℕ) → a ≡ Some n → b ≡ Some n) → IsSome b
-  still None b h k = absurd (cc)
-  still (Some n) b h k = ap is_some (k n refl)
+    still : (a b : Option ℕ) → IsSome a → ((n : ℕ) → a ≡ Some n → b ≡ Some n) → IsSome b
+    still None b h k = absurd (cc)
+    still (Some n) b h k = ap is_some (k n refl)
 
 sound_stays : (old new : Bodies) → Keeps old new → (l : Layout) → IsSound old l → IsSound new l
 sound_stays old new k l s = record { some_align = s.some_align; most_align = s.most_align; most_size = s.most_size; padded = s.padded; in_order = in_order_stays old new k 0 l.members l.size s.in_order }

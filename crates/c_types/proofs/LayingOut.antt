@@ -40,9 +40,9 @@ laying-start bodies members h = record { in_order = refl; ends = refl; strict = 
 pub size_or_none-size_in : (bodies : Bodies) (kind : CType) → IsSome (size_in bodies kind) → unwrap_or (size_in bodies kind) 0 ≡ size_or_none bodies kind
 size_or_none-size_in bodies kind h = at_limit (whole_size bodies kind) h
   where
-  at_limit : (w : Option ℕ) → IsSome (option_and_then at_most_limit w) → unwrap_or (option_and_then at_most_limit w) 0 ≡ unwrap_or w 0
-  at_limit None h = refl
-  at_limit (Some n) h = grind arith
+    at_limit : (w : Option ℕ) → IsSome (option_and_then at_most_limit w) → unwrap_or (option_and_then at_most_limit w) 0 ≡ unwrap_or w 0
+    at_limit None h = refl
+    at_limit (Some n) h = grind arith
 
 pub laying-step : (bodies : Bodies) (members : Declared) (done : List Member) (end align : ℕ) (name : ℕ) (kind : CType) (rest : Declared) (a size : ℕ) →
     Laying bodies members done end align ((name, kind) ∷ rest) → a ≡ align_or_one bodies kind → size ≡ size_or_none bodies kind → 1 ≤ a → a ≤ 8 →
@@ -117,10 +117,11 @@ laying-next bodies t members done end align m rest l h =
 pub laying-end : (bodies : Bodies) (members : Declared) (done : List Member) (end align : ℕ) → Laying bodies members done end align [] → record { members = done; size = rounded end align; align = align } ≡ layout_of bodies members
 laying-end bodies members done end align l = laid done end align (placed bodies 0 members) (end_of_last bodies 0 members) (strictest bodies 1 members) (sym (append-nil done) ∙ l.in_order) l.ends l.strict
   where
-  made : List Member → ℕ → ℕ → Layout
-  made ms e a = record { members = ms; size = rounded e a; align = a }
-  laid : (ms : List Member) (e a : ℕ) (ns : List Member) (f b : ℕ) → ms ≡ ns → e ≡ f → a ≡ b → made ms e a ≡ made ns f b
-  laid ms e a ns f b p q r = cc
+    made : List Member → ℕ → ℕ → Layout
+    made ms e a = record { members = ms; size = rounded e a; align = a }
+
+    laid : (ms : List Member) (e a : ℕ) (ns : List Member) (f b : ℕ) → ms ≡ ns → e ≡ f → a ≡ b → made ms e a ≡ made ns f b
+    laid ms e a ns f b p q r = cc
 
 rounded-multiple : (end align : ℕ) → rounded end align % align ≡ 0
 rounded-multiple end align = mul-mod_left ((end + (align - 1)) / align) align
@@ -153,3 +154,34 @@ sound_layout bodies t members h l =
       padded = rounded-multiple (end_of_last bodies 0 members) (strictest bodies 1 members);
       in_order = placed_in_order bodies t 0 members (layout_of bodies members).size h (rounded-least (end_of_last bodies 0 members) (strictest bodies 1 members) least);
     }
+
+-- what is still to be measured leads to the size of all
+pub record Measuring (bodies : Bodies) (members : Declared) (end align : ℕ) (rest : Declared) : Type 0 where
+  pub ends : end_of_last bodies end rest ≡ end_of_last bodies 0 members
+  pub strict : strictest bodies align rest ≡ strictest bodies 1 members
+  pub some_align : 1 ≤ align
+  pub most_align : align ≤ 8
+  pub small : end ≤ 2 ^ 62
+
+pub measuring-step : (bodies : Bodies) (members : Declared) (end align : ℕ) (m : ℕ × CType) (rest : Declared) (a size : ℕ) →
+    Measuring bodies members end align (m ∷ rest) → a ≡ align_or_one bodies m.1 → size ≡ size_or_none bodies m.1 → 1 ≤ a → a ≤ 8 → rounded end a + size ≤ 2 ^ 62 →
+    Measuring bodies members (rounded end a + size) (max align a) rest
+measuring-step bodies members end align m rest a size l e s some most small = record {
+  ends = rw (e, s) l.ends;
+  strict = rw e l.strict;
+  some_align = omega arith;
+  most_align = omega arith;
+  small = small;
+}
+
+past_limit : (n : ℕ) → 2 ^ 62 < n → None ≡ at_most_limit n
+past_limit n h = grind arith
+
+pub measuring-past : (bodies : Bodies) → IsTable bodies → (members : Declared) (end align : ℕ) (m : ℕ × CType) (rest : Declared) (a size : ℕ) →
+    Measuring bodies members end align (m ∷ rest) → a ≡ align_or_one bodies m.1 → size ≡ size_or_none bodies m.1 → 2 ^ 62 < rounded end a + size →
+    None ≡ at_most_limit (layout_of bodies members).size
+measuring-past bodies t members end align m rest a size l e s past =
+    let last = end_of_last-least bodies t (rounded end (align_or_one bodies m.1) + size_or_none bodies m.1) rest in
+    let up = rounded-least (end_of_last bodies 0 members) (strictest bodies 1 members) (strictest-least bodies 1 members) in
+    let here : 2 ^ 62 < rounded end (align_or_one bodies m.1) + size_or_none bodies m.1 = rw (← e, ← s) past in
+    past_limit (layout_of bodies members).size (omega (arith, l.ends, last, up, here))

@@ -8,9 +8,9 @@ pairs-lengths same [] (y ∷ ys) h = refl
 pairs-lengths same (x ∷ xs) [] h = refl
 pairs-lengths same (x ∷ xs) (y ∷ ys) h = and_false (same x y) (pairs_alike same xs ys) (pairs-lengths same xs ys (λ e. h (ap suc e)))
   where
-  and_false : (a b : Bool) → false ≡ b → false ≡ (a && b)
-  and_false true b e = e
-  and_false false b e = refl
+    and_false : (a b : Bool) → false ≡ b → false ≡ (a && b)
+    and_false true b e = e
+    and_false false b e = refl
 
 pub pairs-step : {X Y : Type 0} (same : X → Y → Bool) (xs : List X) (ys : List Y) (i : ℕ) (x : X) (y : Y) → i < length xs → length xs ≡ length ys → x ≡ get_or xs i x → y ≡ get_or ys i y →
     pairs_alike same (drop i xs) (drop i ys) ≡ (same x y && pairs_alike same (drop (i + 1) xs) (drop (i + 1) ys))

@@ -45,22 +45,58 @@ fn is_int_type(width: Width, signed: bool, rank: u8) -> bool
 
 /// Whether two types are compatible, each with const before it or without, behind a pointer or not.
 #[cycle(compare)]
-fn compare(files: &Files<'_>, behind: bool, a: &CType, a_const: bool, b: &CType, b_const: bool) -> bool
+fn compare(
+    files: &Files<'_>,
+    behind: bool,
+    a: &CType,
+    a_const: bool,
+    b: &CType,
+    b_const: bool,
+) -> bool
     ensures { result ≡ alike (rule_within files.now.depth files.now.first.now (option_copied files.now.other)) (settled a.now a_const) behind (settled b.now b_const) }
 {
     match (a, b) {
         (CType::Const(x), _) => compare(files, behind, x.get(), true, b, b_const),
         (_, CType::Const(y)) => compare(files, behind, a, a_const, y.get(), true),
-        (CType::Array(x, m), CType::Array(y, n)) => *m == *n && compare(files, behind, x.get(), a_const, y.get(), b_const),
-        (CType::Pointer(x), CType::Pointer(y)) => a_const == b_const && compare(files, true, x.get(), false, y.get(), false),
+        (CType::Array(x, m), CType::Array(y, n)) => *m == *n
+            && compare(files, behind, x.get(), a_const, y.get(), b_const),
+        (CType::Pointer(x), CType::Pointer(y)) => a_const == b_const
+            && compare(files, true, x.get(), false, y.get(), false),
         (CType::Function(f), CType::Function(g)) => compare_protos(files, behind, f.get(), g.get()),
-        (CType::Struct(s), CType::Struct(t)) => a_const == b_const && compare_structs(files, behind, *s, *t),
+        (CType::Struct(s), CType::Struct(t)) => a_const == b_const
+            && compare_structs(files, behind, *s, *t),
         (CType::Void, CType::Void) => a_const == b_const,
         (CType::Bool, CType::Bool) => a_const == b_const,
-        (CType::Int { width, signed, rank }, CType::Int { width: w, signed: s, rank: r }) => a_const == b_const && *width == *w && *signed == *s && *rank == *r,
-        (CType::Int { width, signed, rank }, CType::Enum(_)) => a_const == b_const && is_int_type(*width, *signed, *rank),
-        (CType::Enum(_), CType::Int { width, signed, rank }) => a_const == b_const && is_int_type(*width, *signed, *rank),
-        (CType::Enum(m), CType::Enum(n)) => a_const == b_const && (files.other.is_some() || *m == *n),
+        (
+            CType::Int {
+                width,
+                signed,
+                rank,
+            },
+            CType::Int {
+                width: w,
+                signed: s,
+                rank: r,
+            },
+        ) => a_const == b_const && *width == *w && *signed == *s && *rank == *r,
+        (
+            CType::Int {
+                width,
+                signed,
+                rank,
+            },
+            CType::Enum(_),
+        ) => a_const == b_const && is_int_type(*width, *signed, *rank),
+        (
+            CType::Enum(_),
+            CType::Int {
+                width,
+                signed,
+                rank,
+            },
+        ) => a_const == b_const && is_int_type(*width, *signed, *rank),
+        (CType::Enum(m), CType::Enum(n)) => a_const == b_const
+            && (files.other.is_some() || *m == *n),
         (CType::Char, CType::Char) => a_const == b_const,
         (CType::Descriptor, CType::Descriptor) => a_const == b_const,
         (CType::Cdesc(m), CType::Cdesc(n)) => a_const == b_const && *m == *n,
@@ -123,7 +159,9 @@ fn compare_parameters(files: &Files<'_>, behind: bool, a: &CType, b: &CType) -> 
     ensures { result ≡ alike (rule_within files.now.depth files.now.first.now (option_copied files.now.other)) (adjusted (settled a.now false)) behind (adjusted (settled b.now false)) }
 {
     match (adjust(a, false), adjust(b, false)) {
-        (Adjusted::PointerTo(x, x_const), Adjusted::PointerTo(y, y_const)) => compare(files, true, x, x_const, y, y_const),
+        (Adjusted::PointerTo(x, x_const), Adjusted::PointerTo(y, y_const)) => compare(
+            files, true, x, x_const, y, y_const,
+        ),
         (Adjusted::Itself(x), Adjusted::Itself(y)) => compare(files, behind, x, false, y, false),
         _ => false,
     }
@@ -143,7 +181,11 @@ fn compare_structs(files: &Files<'_>, behind: bool, s: u32, t: u32) -> bool
     }
     match (files.first.layout(s), second.layout(t)) {
         (Some(ours), Some(theirs)) => {
-            let deeper = Files { first: files.first, other: files.other, depth: files.depth - 1 };
+            let deeper = Files {
+                first: files.first,
+                other: files.other,
+                depth: files.depth - 1,
+            };
             compare_members(&deeper, ours.members.as_slice(), theirs.members.as_slice())
         }
         _ => true,

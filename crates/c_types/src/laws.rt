@@ -8,13 +8,11 @@ use crate::table::Types;
 pub fn compatible_with_itself(t: &Types, a: &CType)
     ensures one_file { are_compatible t.now a.now None a.now ≡ true }
     ensures two_files { are_compatible t.now a.now (Some t.now) a.now ≡ true }
-{
-}
+{}
 
 /// A law: which of two types stands first makes no difference. (It isn't transitive: an incomplete struct is compatible
 /// with every struct of another file.)
 pub fn compatible_either_way(t: &Types, a: &CType, other: &Types, b: &CType)
     ensures one_file { are_compatible t.now a.now None b.now ≡ are_compatible t.now b.now None a.now }
     ensures two_files { are_compatible t.now a.now (Some other.now) b.now ≡ are_compatible other.now b.now (Some t.now) a.now }
-{
-}
+{}

@@ -3,12 +3,16 @@
 #![tactic(auto)]
 
 mod compatibility;
+mod copy;
 mod ctype;
 mod laws;
 mod size;
 mod table;
+#[cfg(test)]
+mod tests;
 
 pub use compatibility::compatible;
+pub use copy::{copy_proto, copy_type, same_proto, same_type};
 pub use ctype::{CType, Layout, Member, Proto, StructBody};
 pub use laws::{compatible_either_way, compatible_with_itself};
 pub use size::{align_of, size_of};

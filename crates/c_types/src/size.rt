@@ -44,8 +44,8 @@ pub fn align_of(t: &Types, c: &CType) -> Option<u64>
     }
 }
 
-/// The size that objects of one type may have.
-const LARGEST: u64 = 1 << 62;
+/// The most bytes that an object may have.
+pub const LARGEST: u64 = 1 << 62;
 
 /// The bytes of an object of this type (C11 6.5.3.4): None exactly for void, functions and incomplete types, and where the
 /// size passes 2^62.

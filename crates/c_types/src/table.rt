@@ -1,12 +1,11 @@
-ghost use Rattle.std.specs.Prelude.{◌≡◌, ◌+◌, ◌^◌, ◌≤◌, [], ◌∷◌, ◌++◌, All, length, map, nat_eq, slice_get, slice_set, IfOk, IfSome, IsSome, OnOk, OnErr};
-ghost use Rattle.std.specs.List.{IsDistinct};
+ghost use Rattle.std.specs.Prelude.{◌≡◌, ◌+◌, ◌^◌, ◌≤◌, [], ◌∷◌, ◌++◌, ◌↔◌, All, Some, length, slice_get, slice_set, IfOk, IfSome, IsSome, IsTrue, OnOk, OnErr};
 ghost use Rattle.std.specs.Option.{option_copied};
 ghost use Rattle.c_types.specs.Layouts.{align_or_one, layout_of, member_among, member_at, rounded, size_or_none};
-ghost use Rattle.c_types.specs.Sizes.{layout_at, size_in};
+ghost use Rattle.c_types.specs.Sizes.{at_most_limit, layout_at, size_in};
 ghost use Rattle.c_types.specs.Tables.{IsSound, Keeps};
 
 use crate::ctype::{CType, Layout, Member, StructBody};
-use crate::size::{align_of, size_of};
+use crate::size::{LARGEST, align_of, size_of};
 use jf_base::{List, Memory};
 use std::alloc::Global;
 use std::marker::Model;
@@ -21,7 +20,6 @@ impl Model for Types {
     ghost use Rattle.std.specs.Prelude.{List};
     ghost use Rattle.c_types.specs.declared.ctype.StructBody.{StructBody};
     ghost use Rattle.c_types.specs.Tables.{IsTable};
-
     ghost use Rattle.std.specs.Coded.{coded_list};
     ghost use Rattle.c_types.specs.contracts.ctype.StructBody as body;
 
@@ -66,6 +64,7 @@ impl Types {
     pub fn add_struct(&mut self) -> Result<u32, Memory>
         ensures number { IfOk result (λ s. s ≡ length self.old) }
         ensures added { OnOk result (self.new ≡ self.old ++ StructBody.Incomplete ∷ []) }
+        ensures incomplete { IfOk result (λ s. slice_get self.new s ≡ Some StructBody.Incomplete) }
         ensures kept { OnOk result (Keeps self.old self.new) }
         ensures err { OnErr result (self.new ≡ self.old) }
     {
@@ -79,11 +78,43 @@ impl Types {
         Ok(s as u32)
     }
 
+    /// Whether each of these members has a size of at most 2^62 bytes.
+    pub fn are_sized(&self, members: &[(u32, CType)]) -> bool
+        ensures { IsTrue result ↔ All (λ m. IsSome (size_in self.now m.1)) members.now }
+    {
+        members.iter().all(|m| size_of(self, &m.1).is_some())
+    }
+
+    /// The size of a struct with these members: None exactly where it passes 2^62 bytes.
+    pub fn struct_size(&self, members: &[(u32, CType)]) -> Option<u64>
+        requires { All (λ m. IsSome (size_in self.now m.1)) members.now }
+        ensures { result ≡ at_most_limit (layout_of self.now members.now).size }
+    {
+        let _table = &self.bodies;
+        let mut end: u64 = 0;
+        let mut align: u64 = 1;
+        for (_, kind) in members {
+            let size = member_size(self, kind);
+            let kind_align = member_align(self, kind);
+            end = round_up(end, kind_align) + size;
+            if end > LARGEST {
+                return None;
+            }
+            align = align.max(kind_align);
+        }
+        let size = round_up(end, align);
+        if size > LARGEST { None } else { Some(size) }
+    }
+
     /// Lays out the members of an incomplete struct, given by name and type in their order (C11 6.7.2.1p14, p15, p17). Where
     /// there is no memory, the table stays.
-    pub fn complete(&mut self, alloc: Global, s: u32, members: Vec<(u32, CType)>) -> Result<(), Memory>
+    pub fn complete(
+        &mut self,
+        alloc: Global,
+        s: u32,
+        members: Vec<(u32, CType)>,
+    ) -> Result<(), Memory>
         requires incomplete { slice_get self.old s ≡ Some StructBody.Incomplete }
-        requires names { IsDistinct nat_eq (map (λ m. m.0) members.items) }
         requires sized { All (λ m. IsSome (size_in self.old m.1)) members.items }
         requires small { (layout_of self.old members.items).size ≤ 2 ^ 62 }
         ensures kept { OnOk result (Keeps self.old self.new) }

@@ -19,7 +19,7 @@ pub compare_members-returns-then-not-compare : goal.compare_members-returns-then
 compare_members-returns-then-not-compare t c =
     let at = c.loop-i in
     pairs-differ (λ (m n : Member). compatible_by (rule_within c.args.files.now.depth c.args.files.now.first.now (option_copied c.args.files.now.other)) m.kind n.kind)
-        c.args.ours.now c.args.theirs.now at.i c.index-ours-i.result c.index-theirs-i.result c.loop-i-test.true at.invariant.lengths c.index-ours-i.is c.index-theirs-i.is at.invariant.rest (same_at (rule_within c.args.files.now.depth c.args.files.now.first.now (option_copied c.args.files.now.other)) _ _ _ _ _ _ c.index-ours-i.is c.index-theirs-i.is c.compare.ensures c.if-not-compare.true)
+    c.args.ours.now c.args.theirs.now at.i c.index-ours-i.result c.index-theirs-i.result c.loop-i-test.true at.invariant.lengths c.index-ours-i.is c.index-theirs-i.is at.invariant.rest (same_at (rule_within c.args.files.now.depth c.args.files.now.first.now (option_copied c.args.files.now.other)) _ _ _ _ _ _ c.index-ours-i.is c.index-theirs-i.is c.compare.ensures c.if-not-compare.true)
 
 pub compare_members-loop-i-preserved : goal.compare_members-loop-i-preserved
 compare_members-loop-i-preserved t c =
@@ -34,7 +34,7 @@ pub compare_members-returns : goal.compare_members-returns
 compare_members-returns t c =
     let at = c.loop-i in
     sym (pairs-end (λ (m n : Member). compatible_by (rule_within c.args.files.now.depth c.args.files.now.first.now (option_copied c.args.files.now.other)) m.kind n.kind)
-        c.args.ours.now c.args.theirs.now at.i c.loop-i-test.false at.invariant.lengths) ∙ at.invariant.rest
+    c.args.ours.now c.args.theirs.now at.i c.loop-i-test.false at.invariant.lengths) ∙ at.invariant.rest
 
 pub compare_structs-returns-in-Some-Some : goal.compare_structs-returns-in-Some-Some
 compare_structs-returns-in-Some-Some t c =
@@ -44,7 +44,7 @@ compare_structs-returns-in-Some-Some t c =
 pub compare_structs-compare_members-requires : goal.compare_structs-compare_members-requires
 compare_structs-compare_members-requires t c =
     let falls = falls-held c.args.files.now.depth c.args.files.now.first.now c.in-Some.second.now (option_copied c.args.files.now.other) c.args.s c.args.t c.in-Some-Some.ours.now c.in-Some-Some.theirs.now c.as_slice.result.now c.as_slice-in-Some-Some.result.now
-        c.if-files-eq0.false (ap option_copied c.in-Some.is) (sym c.in-Some-Some.ensures.found) (sym c.in-Some-Some.ensures'.found) c.as_slice.ensures c.as_slice-in-Some-Some.ensures in
+    c.if-files-eq0.false (ap option_copied c.in-Some.is) (sym c.in-Some-Some.ensures.found) (sym c.in-Some-Some.ensures'.found) c.as_slice.ensures c.as_slice-in-Some-Some.ensures in
     (omega (arith, c.decreases, falls), tt)
 
 pub compare_members-compare-requires : goal.compare_members-compare-requires
@@ -58,7 +58,7 @@ compare_protos-returns-then-not-compare_parameters t c =
     let at = c.loop-i in
     let rule = rule_within c.args.files.now.depth c.args.files.now.first.now (option_copied c.args.files.now.other) in
     let differ = pairs-differ (λ (x y : CType). alike rule (adjusted (settled x false)) c.args.behind (adjusted (settled y false))) c.as_slice-ours.result.now c.as_slice-theirs.result.now at.i c.index-ours-i.result c.index-theirs-i.result c.loop-i-test.true at.invariant.lengths c.index-ours-i.is c.index-theirs-i.is at.invariant.rest
-        (sym c.compare_parameters.ensures ∙ c.if-not-compare_parameters.true) in
+    (sym c.compare_parameters.ensures ∙ c.if-not-compare_parameters.true) in
     let alike_results = sym c.compare.ensures ∙ c.if-not-compare.false in
     rw (protos_alike rule c.args.f.now c.args.g.now c.args.behind, alike_results, ← c.as_slice-ours.ensures, ← c.as_slice-theirs.ensures) differ
 

@@ -26,14 +26,13 @@ loop-name-preserved c =
     let at = c.loop-name in
     let steps : into_iter_items at.name-iterator ≡ (c.in-Some.name, c.in-Some.kind) ∷ into_iter_items c.next.new.self = c.in-Some.ensures.steps.0 in
     let laying = subst (Laying c.args.self.now c.args.members.items at.laid at.end at.align) steps at.invariant.0 in
-    let small = c.member_align-kind_align.ensures.small in
-    (
+    let small = c.member_align-kind_align.ensures.small in (
       rw (c.in_ok-push.ensures.ok, c.round_up-offset.ensures, c.max-align.ensures)
           (laying-step c.args.self.now c.args.members.items at.laid at.end at.align c.in-Some.name c.in-Some.kind (into_iter_items c.next.new.self) c.member_align-kind_align.result c.member_size-size.result laying c.member_align-kind_align.ensures.value c.member_size-size.ensures small.0 small.1),
       let was = at.invariant.1 in
-      let gone = c.in-Some.ensures.steps.1 in
-      let short = ap length steps in
-      omega arith,
+          let gone = c.in-Some.ensures.steps.1 in
+          let short = ap length steps in
+          omega arith,
     )
 
 nothing_left : {X : Type 0} (l : List X) → length l ≡ 0 → l ≡ []
@@ -47,5 +46,5 @@ returns-clause-sound c =
     let empty : into_iter_items at.name-iterator ≡ [] = nothing_left (into_iter_items at.name-iterator) (sym at.invariant.1 ∙ c.in-None.ensures.steps.0) in
     let laying = subst (Laying c.args.self.now c.args.members.items at.laid at.end at.align) empty at.invariant.0 in
     rw c.round_up.ensures
-        (subst (IsSound c.args.self.now) (sym (laying-end c.args.self.now c.args.members.items at.laid at.end at.align laying))
-            (sound_layout c.args.self.now table c.args.members.items c.requires.sized c.requires.small))
+    (subst (IsSound c.args.self.now) (sym (laying-end c.args.self.now c.args.members.items at.laid at.end at.align laying))
+    (sound_layout c.args.self.now table c.args.members.items c.requires.sized c.requires.small))
