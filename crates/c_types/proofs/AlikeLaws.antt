@@ -1,18 +1,14 @@
 -- Compatibility is reflexive and symmetric.
 use Rattle.std.proofs.Common.{◌≡◌, ℕ, suc, zero, ◌&&◌, ◌==◌, Bool, true, false, Option, Some, None, List, [], ◌∷◌, map, length, min, refl, ap, sym, ◌∙◌, arith}
-use Rattle.jf_base.specs.declared.numbers.Width.{Width}
-use Rattle.jf_base.specs.declared.numbers.Width.TheVariants.{W1, W2, W4, W8}
 use Rattle.jf_base.specs.Numbers.{size_of_width}
-use Rattle.c_types.specs.declared.ctype.CType.{CType, CType-F, out-CType, roll-CType, out-roll-CType, map-CType, fold_out-CType}
-use Rattle.c_types.specs.declared.ctype.CType.TheFolds.{fold_out-Proto}
+use Rattle.c_types.specs.declared.ctype.CType.{CType, CType-F, out-CType, out-roll-CType, map-CType, fold_out-CType}
 use Rattle.c_types.specs.declared.ctype.CType.TheOpen as c
 use Rattle.c_types.specs.declared.ctype.CType.TheOpen.{Proto-F}
 use Rattle.c_types.specs.declared.ctype.Layout.{Layout}
-use Rattle.c_types.specs.declared.ctype.Member.{Member}
 use Rattle.c_types.specs.declared.ctype.Proto.{Proto}
 use Rattle.c_types.specs.Sizes.{Bodies, layout_at}
-use Rattle.c_types.specs.Compatible.{Rule, alike, alike_layers, alike_of_proto, alike_proto, alike_step, are_compatible, bool_eq, compatible_by, in_one_file, across_files, is_int, layouts_alike, pairs_alike, rule_for, settled, structs_across}
-use Rattle.c_types.proofs.Induction.{by_layers, bare, bare_proto, Shown, ShownProto, answered, answered_proto, fold-bare, fold-bare_proto}
+use Rattle.c_types.specs.Compatible.{Rule, alike, alike_layers, alike_of_proto, alike_proto, alike_step, are_compatible, bool_eq, compatible_by, in_one_file, across_files, layouts_alike, pairs_alike, settled, structs_across}
+use Rattle.c_types.proofs.Induction.{by_layers, bare, bare_proto, Shown, ShownProto, answered, fold-bare}
 use Rattle.c_types.proofs.Settling.{alike_proto-is}
 
 -- two rules, each with the two sides of the other

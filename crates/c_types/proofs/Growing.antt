@@ -1,18 +1,17 @@
 -- A table that grows.
-use Rattle.std.proofs.Common.{◌≡◌, ℕ, suc, zero, ◌+◌, ◌*◌, ◌≤◌, ◌⊎◌, inl, inr, Option, Some, None, is_some, IsSome, unwrap_or, List, [], ◌∷◌, ◌++◌, length, set, slice_get, Bool, true, false, if◌then◌else◌, refl, ap, sym, subst, ◌∙◌, arith}
-use Rattle.std.specs.Option.{option_and_then, option_map}
+use Rattle.std.proofs.Common.{◌≡◌, ℕ, suc, zero, ◌+◌, ◌*◌, ◌⊎◌, inl, inr, Option, Some, None, is_some, IsSome, unwrap_or, List, [], ◌∷◌, ◌++◌, set, slice_get, Bool, true, false, if◌then◌else◌, refl, ap, sym, subst, ◌∙◌}
+use Rattle.std.specs.Option.{option_map}
 use Rattle.c_types.specs.declared.ctype.CType.{CType}
 use Rattle.c_types.specs.declared.ctype.CType.TheOpen as c
 use Rattle.c_types.specs.declared.ctype.CType.TheOpen.{CType-F, Proto-F}
 use Rattle.c_types.specs.declared.ctype.Layout.{Layout}
 use Rattle.c_types.specs.declared.ctype.Member.{Member}
 use Rattle.c_types.specs.declared.ctype.Proto.{Proto}
-use Rattle.c_types.specs.declared.ctype.StructBody.{StructBody}
 use Rattle.c_types.specs.declared.ctype.StructBody.TheVariants.{Incomplete, Complete}
 use Rattle.c_types.specs.Layouts.{align_or_one, size_or_none}
-use Rattle.c_types.specs.Sizes.{Bodies, alignment, align_step, layout_in, layout_at, whole_size, size_step}
+use Rattle.c_types.specs.Sizes.{Bodies, alignment, align_step, layout_at, whole_size, size_step}
 use Rattle.c_types.specs.Tables.{InOrder, IsSound, IsTable, Keeps}
-use Rattle.c_types.proofs.Induction.{by_layers, bare, Shown, answered, fold-bare}
+use Rattle.c_types.proofs.Induction.{by_layers, Shown, answered, fold-bare}
 use Rattle.c_types.proofs.SizeLemmas.{has_both}
 
 abbrev Stays : Bodies → Bodies → Type 0

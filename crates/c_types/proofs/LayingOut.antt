@@ -1,17 +1,15 @@
 -- Members laid out one by one.
-use Rattle.std.proofs.Common.{◌≡◌, ℕ, suc, ◌+◌, ◌-◌, ◌*◌, ◌/◌, ◌%◌, ◌<◌, ◌≤◌, ◌^◌, max, Option, Some, None, IsSome, is_some, unwrap_or, List, [], ◌∷◌, ◌++◌, All, length, refl, ap, sym, subst, ◌∙◌, arith, zero, append_assoc, append-nil}
+use Rattle.std.proofs.Common.{◌≡◌, ℕ, suc, ◌+◌, ◌-◌, ◌/◌, ◌%◌, ◌<◌, ◌≤◌, ◌^◌, max, Option, Some, None, IsSome, unwrap_or, List, [], ◌∷◌, ◌++◌, All, refl, sym, subst, ◌∙◌, arith, append_assoc, append-nil}
 use Rattle.std.specs.Option.{option_and_then, option_map}
 use Rattle.jf_base.specs.declared.numbers.Width.{Width}
 use Rattle.jf_base.specs.declared.numbers.Width.TheVariants.{W1, W2, W4, W8}
 use Rattle.jf_base.specs.Numbers.{size_of_width}
-use Rattle.std.specs.Vec.Iter.{into_iter_items, into_iter_len}
-use Rattle.std.proofs.lemmas.Grind.{common_steps}
 use Rattle.std.proofs.Math.Nat.{lt-div-mul-add, mul-mod_left}
 use Rattle.c_types.specs.declared.ctype.CType.{CType}
 use Rattle.c_types.specs.declared.ctype.CType.TheOpen as c
 use Rattle.c_types.specs.declared.ctype.CType.TheOpen.{CType-F, Proto-F}
 use Rattle.c_types.specs.declared.ctype.Proto.{Proto}
-use Rattle.c_types.proofs.Induction.{by_layers, bare, Shown, answered, fold-bare}
+use Rattle.c_types.proofs.Induction.{by_layers, Shown, answered, fold-bare}
 use Rattle.c_types.specs.declared.ctype.Layout.{Layout}
 use Rattle.c_types.specs.declared.ctype.Member.{Member}
 use Rattle.c_types.specs.Layouts.{Declared, rounded, align_or_one, size_or_none, placed, end_of_last, strictest, layout_of}

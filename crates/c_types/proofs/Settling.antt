@@ -1,8 +1,8 @@
 -- Settled types by their kinds, and functions by their parts.
-use Rattle.std.proofs.Common.{◌≡◌, ℕ, zero, suc, ◌-◌, sub-one, Some, ◌&&◌, Bool, true, false, List, [], ◌∷◌, map, refl, ap, sym, ◌∙◌}
-use Rattle.c_types.specs.declared.ctype.CType.{CType, CType-F, out-CType, roll-CType, fold-roll-CType, map-CType, Function, Pointer}
-use Rattle.c_types.specs.declared.ctype.CType.TheFolds.{fold_out-Proto, map-Proto}
-use Rattle.c_types.specs.declared.ctype.CType.TheViews.{outs-Function, rolls-Function, out-Proto}
+use Rattle.std.proofs.Common.{◌≡◌, ℕ, zero, suc, ◌-◌, sub-one, Some, ◌&&◌, Bool, false, List, [], ◌∷◌, map, refl, ap, sym, ◌∙◌}
+use Rattle.c_types.specs.declared.ctype.CType.{CType, CType-F, roll-CType, fold-roll-CType, map-CType, Function, Pointer}
+use Rattle.c_types.specs.declared.ctype.CType.TheFolds.{fold_out-Proto}
+use Rattle.c_types.specs.declared.ctype.CType.TheViews.{outs-Function, rolls-Function}
 use Rattle.c_types.specs.declared.ctype.CType.TheOpen as c
 use Rattle.c_types.specs.declared.ctype.CType.TheOpen.{Proto-F}
 use Rattle.c_types.specs.declared.ctype.Layout.{Layout}

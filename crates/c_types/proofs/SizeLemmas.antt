@@ -1,13 +1,12 @@
 -- Which types have a size, and the size of an array.
-use Rattle.std.proofs.Common.{◌≡◌, ℕ, suc, ◌+◌, ◌*◌, ◌/◌, ◌<◌, ◌≤◌, ◌^◌, Option, Some, None, is_some, refl, ap, sym, ◌∙◌, arith, nat_le, Bool, true, false, zero}
+use Rattle.std.proofs.Common.{◌≡◌, ℕ, ◌*◌, ◌/◌, ◌<◌, ◌≤◌, ◌^◌, Option, Some, None, is_some, refl, ap, sym, ◌∙◌, arith}
 use Rattle.std.specs.Option.{option_and_then, option_map}
-use Rattle.std.proofs.lemmas.Grind.{common_steps}
 use Rattle.c_types.specs.declared.ctype.CType.{CType}
 use Rattle.c_types.specs.declared.ctype.CType.TheOpen as c
 use Rattle.c_types.specs.declared.ctype.CType.TheOpen.{CType-F, Proto-F}
 use Rattle.c_types.specs.declared.ctype.Proto.{Proto}
-use Rattle.c_types.specs.Sizes.{Bodies, layout_at, alignment, align_step, whole_size, size_step, at_most_limit, size_in}
-use Rattle.c_types.proofs.Induction.{by_layers, bare, Shown, answered, fold-bare}
+use Rattle.c_types.specs.Sizes.{Bodies, layout_at, alignment, align_step, whole_size, size_step, at_most_limit}
+use Rattle.c_types.proofs.Induction.{by_layers, Shown, answered, fold-bare}
 
 abbrev pub HasBoth : Bodies → CType → Type 0
 HasBoth bodies kind = is_some (alignment bodies kind) ≡ is_some (whole_size bodies kind)

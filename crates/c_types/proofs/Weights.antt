@@ -1,12 +1,11 @@
 -- How large the types of a table's members are.
-use Rattle.std.proofs.Common.{◌≡◌, ℕ, suc, zero, ◌+◌, ◌-◌, ◌*◌, ◌<◌, ◌≤◌, max, Option, Some, None, List, [], ◌∷◌, slice_get, get_or, length, refl, sym, arith}
-use Rattle.std.specs.Option.{option_and_then}
-use Rattle.c_types.specs.declared.ctype.CType.{CType, size-CType}
+use Rattle.std.proofs.Common.{◌≡◌, ℕ, suc, zero, ◌+◌, ◌-◌, ◌*◌, ◌<◌, ◌≤◌, max, Option, Some, None, List, [], ◌∷◌, get_or, length, refl, sym, arith}
+use Rattle.c_types.specs.declared.ctype.CType.{size-CType}
 use Rattle.c_types.specs.declared.ctype.Layout.{Layout}
 use Rattle.c_types.specs.declared.ctype.Member.{Member}
 use Rattle.c_types.specs.declared.ctype.StructBody.{StructBody}
 use Rattle.c_types.specs.declared.ctype.StructBody.TheVariants.{Incomplete, Complete}
-use Rattle.c_types.specs.Sizes.{Bodies, layout_in, layout_at}
+use Rattle.c_types.specs.Sizes.{Bodies, layout_at}
 
 abbrev pub most : List Member → ℕ
 most [] = 0

@@ -1,5 +1,5 @@
 -- The adjusted type of a parameter, without a type made for it.
-use Rattle.std.specs.Prelude.{◌≡◌, ℕ, ◌≤◌, Bool, true, false}
+use Rattle.std.specs.Prelude.{◌≡◌, ◌≤◌, Bool, true, false}
 use Rattle.c_types.specs.declared.ctype.CType.{CType, CType-F, out-CType, size-CType}
 use Rattle.c_types.specs.declared.ctype.CType.TheVariants.{Pointer}
 use Rattle.c_types.specs.declared.ctype.CType.TheOpen as c

@@ -1,5 +1,6 @@
-pub mod Sizes
-pub mod Layouts
-pub mod Tables
-pub mod Compatible
 pub mod Adjusted
+pub mod Compatible
+pub mod Files
+pub mod Layouts
+pub mod Sizes
+pub mod Tables

@@ -1,7 +1,8 @@
-ghost use Rattle.std.specs.Prelude.{◌≡◌, ◌≤◌, false, true, length};
+ghost use Rattle.std.specs.Prelude.{◌≡◌, false};
 ghost use Rattle.std.specs.Option.{option_copied};
 ghost use Rattle.c_types.specs.Adjusted.{IsAdjusted, IsNoLarger};
-ghost use Rattle.c_types.specs.Compatible.{adjusted, alike, are_compatible, compatible_by, is_int, rule_within, settled, settled_of_proto, alike_of_proto, members_alike};
+ghost use Rattle.c_types.specs.Compatible.{adjusted, alike, are_compatible, compatible_by, is_int, settled, settled_of_proto, alike_of_proto, members_alike};
+ghost use Rattle.c_types.specs.Files.{rule_of};
 
 use crate::ctype::{CType, Member, Proto};
 use crate::table::Types;
@@ -53,7 +54,7 @@ fn compare(
     b: &CType,
     b_const: bool,
 ) -> bool
-    ensures { result ≡ alike (rule_within files.now.depth files.now.first.now (option_copied files.now.other)) (settled a.now a_const) behind (settled b.now b_const) }
+    ensures { result ≡ alike (rule_of files.now) (settled a.now a_const) behind (settled b.now b_const) }
 {
     match (a, b) {
         (CType::Const(x), _) => compare(files, behind, x.get(), true, b, b_const),
@@ -107,7 +108,7 @@ fn compare(
 /// Whether two functions' results and parameters are compatible.
 #[cycle(compare)]
 fn compare_protos(files: &Files<'_>, behind: bool, f: &Proto, g: &Proto) -> bool
-    ensures { result ≡ alike_of_proto (rule_within files.now.depth files.now.first.now (option_copied files.now.other)) (settled_of_proto f.now) behind (settled_of_proto g.now) }
+    ensures { result ≡ alike_of_proto (rule_of files.now) (settled_of_proto f.now) behind (settled_of_proto g.now) }
 {
     if !compare(files, behind, &f.result, false, &g.result, false) {
         return false;
@@ -156,7 +157,7 @@ fn adjust(c: &CType, is_const: bool) -> Adjusted<'_>
 /// Whether the adjusted types of two parameters are compatible.
 #[cycle(compare)]
 fn compare_parameters(files: &Files<'_>, behind: bool, a: &CType, b: &CType) -> bool
-    ensures { result ≡ alike (rule_within files.now.depth files.now.first.now (option_copied files.now.other)) (adjusted (settled a.now false)) behind (adjusted (settled b.now false)) }
+    ensures { result ≡ alike (rule_of files.now) (adjusted (settled a.now false)) behind (adjusted (settled b.now false)) }
 {
     match (adjust(a, false), adjust(b, false)) {
         (Adjusted::PointerTo(x, x_const), Adjusted::PointerTo(y, y_const)) => compare(
@@ -170,7 +171,7 @@ fn compare_parameters(files: &Files<'_>, behind: bool, a: &CType, b: &CType) -> 
 /// Whether two structs are compatible, behind a pointer or not.
 #[cycle(compare)]
 fn compare_structs(files: &Files<'_>, behind: bool, s: u32, t: u32) -> bool
-    ensures { result ≡ (rule_within files.now.depth files.now.first.now (option_copied files.now.other)).structs behind s t }
+    ensures { result ≡ (rule_of files.now).structs behind s t }
 {
     let second = match files.other {
         None => return s == t,
@@ -195,7 +196,7 @@ fn compare_structs(files: &Files<'_>, behind: bool, s: u32, t: u32) -> bool
 /// Whether two structs have as many members that are compatible in order.
 #[cycle(compare)]
 fn compare_members(files: &Files<'_>, ours: &[Member], theirs: &[Member]) -> bool
-    ensures { result ≡ members_alike (compatible_by (rule_within files.now.depth files.now.first.now (option_copied files.now.other))) ours.now theirs.now }
+    ensures { result ≡ members_alike (compatible_by (rule_of files.now)) ours.now theirs.now }
 {
     if ours.len() != theirs.len() {
         return false;

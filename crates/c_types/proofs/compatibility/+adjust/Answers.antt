@@ -1,4 +1,3 @@
-use Rattle.std.proofs.Common.{◌≡◌}
 use Rattle.c_types.proofs.Settling.{adjusted-Function}
 use Rattle.c_types.proofs.compatibility.+adjust.Goals as goal
 

@@ -1,10 +1,10 @@
-use Rattle.std.proofs.Common.{◌≡◌, ◌&&◌, ◌<◌, Bool, true, false, drop, length, refl, ap, sym, ◌∙◌, arith}
+use Rattle.std.proofs.Common.{false, refl, ap, sym, ◌∙◌, arith}
 use Rattle.std.specs.Option.{option_copied}
 use Rattle.c_types.specs.declared.ctype.CType.{CType}
 use Rattle.c_types.specs.declared.ctype.Member.{Member}
-use Rattle.c_types.specs.Compatible.{adjusted, alike, compatible_by, rule_within, settled, pairs_alike}
+use Rattle.c_types.specs.Compatible.{adjusted, alike, compatible_by, rule_within, settled}
 use Rattle.c_types.proofs.Pairs.{pairs-lengths, pairs-differ, pairs-go_on, pairs-end}
-use Rattle.c_types.proofs.Settling.{params_alike, protos_alike, same_at, structs-held}
+use Rattle.c_types.proofs.Settling.{protos_alike, same_at, structs-held}
 use Rattle.c_types.proofs.Weights.{most-member, falls-held}
 use Rattle.c_types.proofs.compatibility.+compare.Goals as goal
 

@@ -1,4 +1,4 @@
-use Rattle.std.proofs.Common.{◌≡◌, false, drop, length, ◌+◌, ◌*◌}
+use Rattle.std.proofs.Common.{◌≡◌, drop, length, ◌+◌, ◌*◌}
 use Rattle.std.specs.Option.{option_copied}
 use Rattle.c_types.specs.declared.ctype.CType.{size-CType}
 use Rattle.c_types.specs.declared.ctype.CType.TheViews.{size-Proto}

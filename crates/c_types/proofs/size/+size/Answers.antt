@@ -1,6 +1,5 @@
-use Rattle.std.proofs.Common.{◌≡◌, ◌*◌, ◌+◌, ◌/◌, ◌<◌, ◌≤◌, sym, ◌∙◌, arith, Option, Some, ℕ}
-use Rattle.std.specs.Option.{option_and_then}
-use Rattle.c_types.specs.Sizes.{alignment, at_most_limit, size_in, whole_size}
+use Rattle.std.proofs.Common.{sym, ◌∙◌, arith}
+use Rattle.c_types.specs.Sizes.{alignment, whole_size}
 use Rattle.c_types.proofs.SizeLemmas.{has_both, none_unaligned, empty_row, row_too_large}
 use Rattle.c_types.proofs.size.+size.Goals as goal
 

@@ -1,5 +1,3 @@
-use Rattle.std.proofs.Common.{◌≡◌, ◌∷◌, ◌++◌, [], subst}
-use Rattle.c_types.specs.Tables.{Keeps}
 use Rattle.c_types.proofs.Growing.{keeps-push, table-push}
 use Rattle.c_types.proofs.table.Types.add_struct.Goals as goal
 

@@ -1,7 +1,6 @@
-use Rattle.std.proofs.Common.{◌≡◌, Some, slice_get, subst}
+use Rattle.std.proofs.Common.{◌≡◌, Some, slice_get}
 use Rattle.c_types.specs.declared.ctype.StructBody.TheVariants.{Incomplete}
-use Rattle.c_types.specs.Sizes.{Bodies}
-use Rattle.c_types.specs.Tables.{IsSound, Keeps}
+use Rattle.c_types.specs.Tables.{IsSound}
 use Rattle.c_types.proofs.Growing.{keeps-set, table-set}
 use Rattle.c_types.proofs.table.Types.complete.Goals as goal
 

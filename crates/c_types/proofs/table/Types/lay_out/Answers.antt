@@ -1,6 +1,5 @@
 use Rattle.std.proofs.Common.{◌≡◌, ◌≤◌, ◌+◌, List, [], ◌∷◌, refl, ◌^◌, length, ap, subst, sym, ◌∙◌, arith}
 use Rattle.std.specs.Vec.Iter.{into_iter_items}
-use Rattle.c_types.specs.Layouts.{rounded, align_or_one, size_or_none}
 use Rattle.c_types.specs.Tables.{IsSound, IsTable}
 use Rattle.c_types.proofs.LayingOut.{Laying, laying-within, laying-next, laying-step, laying-end, sound_layout}
 use Rattle.c_types.proofs.table.Types.lay_out.Goals as goal
