@@ -1,0 +1,4 @@
+pub mod Integers
+pub mod Values
+pub mod Operators
+pub mod Texts

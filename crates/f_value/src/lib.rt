@@ -1,0 +1,11 @@
+//! The elemental operations of Fortran on values: its operators and its elemental intrinsics, exactly, with the violation that
+//! each meets (ISO/IEC 1539-1:2018, clauses 10 and 16).
+#![tactic(auto)]
+
+mod integer;
+mod operator;
+mod text;
+mod value;
+
+pub use operator::{binary, unary};
+pub use value::{Did, FIntrinsic, FOp, FValue};
