@@ -2,3 +2,4 @@ pub mod Integers
 pub mod Values
 pub mod Operators
 pub mod Texts
+pub mod Intrinsics

@@ -3,9 +3,11 @@
 #![tactic(auto)]
 
 mod integer;
+mod intrinsics;
 mod operator;
 mod text;
 mod value;
 
+pub use intrinsics::intrinsic;
 pub use operator::{binary, unary};
 pub use value::{Did, FIntrinsic, FOp, FValue};
