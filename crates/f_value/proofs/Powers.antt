@@ -1,5 +1,5 @@
 -- Powers of numbers.
-use Rattle.std.proofs.Common.{◌≡◌, ℕ, ℤ, pos, negsuc, neg_ℤ, suc, zero, ◌+◌, ◌-◌, ◌*◌, ◌/◌, ◌%◌, ◌^◌, ◌<◌, ◌≤◌, ◌*ℤ◌, cond, nat_eq, Bool, true, false, unsigned_abs, ◌&&◌, lit≤, lit<, nat_le, refl, ap, sym, ◌∙◌, arith}
+use Rattle.std.proofs.Common.{◌≡◌, ℕ, ℤ, pos, negsuc, neg_ℤ, suc, zero, ◌*◌, ◌/◌, ◌%◌, ◌^◌, ◌<◌, ◌≤◌, ◌*ℤ◌, cond, nat_eq, true, false, unsigned_abs, ◌&&◌, lit≤, lit<, nat_le, refl, ap, sym, ◌∙◌, arith}
 use Rattle.std.specs.Int.{int_pow}
 use Rattle.std.proofs.Math.Nat.{pow-suc, pow-zero, mul_comm, pow-le-pow_left, pow-le-pow_right, one-le-pow, mul-le-mul_left, div-eq_of_lt}
 use Rattle.std.proofs.lemmas.Int.{unsigned_abs-mul}

@@ -1,9 +1,9 @@
 -- The elemental intrinsic functions on scalar arguments (16.9).
-use Rattle.std.specs.Prelude.{ℕ, ℤ, pos, negsuc, neg_ℤ, ◌+ℤ◌, ◌-ℤ◌, ◌+◌, ◌*◌, ◌/◌, ◌^◌, ◌==◌, ◌&&◌, ◌||◌, bit_and, bit_or, bit_xor, nat_eq, nat_le, Bool, true, false, Option, Some, None, List, [], ◌∷◌, length, unsigned_abs, int_rem, zero, suc, if◌then◌else◌}
-use Rattle.std.specs.Int.Signed.{le_z, lt_z}
+use Rattle.std.specs.Prelude.{ℕ, ℤ, pos, negsuc, neg_ℤ, ◌+ℤ◌, ◌-ℤ◌, ◌*◌, ◌/◌, ◌^◌, ◌==◌, ◌&&◌, ◌||◌, bit_and, bit_or, bit_xor, nat_eq, nat_le, Bool, true, false, Option, Some, None, List, [], ◌∷◌, length, unsigned_abs, int_rem, suc, if◌then◌else◌}
+use Rattle.std.specs.Int.Signed.{lt_z}
 use Rattle.std.specs.Int.{int_max, int_min}
 use Rattle.std.specs.Option.{option_map}
-use Rattle.jf_base.specs.Numbers.{modulus_of, residue, wrapped, size_of_width}
+use Rattle.jf_base.specs.Numbers.{residue, wrapped, size_of_width}
 use Rattle.f_value.specs.declared.value.Did.{Did}
 use Rattle.f_value.specs.declared.value.Did.TheVariants.{Done, Violation}
 use Rattle.f_value.specs.declared.value.FIntrinsic.{FIntrinsic}
@@ -31,8 +31,12 @@ remainder a p kind = if is_zero p then by_zero else in_kind (int_rem a p) kind
 abbrev pub differs_in_sign : ℤ → ℤ → Bool
 differs_in_sign r p = (lt_z r (pos 0) && lt_z (pos 0) p) || (lt_z (pos 0) r && lt_z p (pos 0))
 
+-- a remainder of a division by p with the sign of p
+abbrev pub with_sign_of : ℤ → ℤ → ℤ
+with_sign_of r p = if differs_in_sign r p then r +ℤ p else r
+
 abbrev pub modulo : ℤ → ℤ → ℕ → Did FValue
-modulo a p kind = if is_zero p then by_zero else in_kind (if differs_in_sign (int_rem a p) p then int_rem a p +ℤ p else int_rem a p) kind
+modulo a p kind = if is_zero p then by_zero else in_kind (with_sign_of (int_rem a p) p) kind
 
 -- 16.3.1: the bits of a number, as one without sign below 2 to their number
 abbrev pub bits_of : ℤ → ℕ → ℕ

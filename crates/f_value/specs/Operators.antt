@@ -1,7 +1,7 @@
 -- The operators on scalar operands (clause 10.1).
-use Rattle.std.specs.Prelude.{◌≡◌, ℕ, ℤ, pos, neg_ℤ, ◌&&◌, ◌||◌, max, Bool, not, Option, Some, None, List}
+use Rattle.std.specs.Prelude.{◌≡◌, ℕ, neg_ℤ, ◌&&◌, ◌||◌, max, Bool, not, Option, Some, None}
 use Rattle.f_value.specs.declared.value.Did.{Did}
-use Rattle.f_value.specs.declared.value.Did.TheVariants.{Done, Violation, Memory}
+use Rattle.f_value.specs.declared.value.Did.TheVariants.{Done, Memory}
 use Rattle.f_value.specs.declared.value.FOp.{FOp}
 use Rattle.f_value.specs.declared.value.FOp.TheVariants as op
 use Rattle.f_value.specs.declared.value.FValue.{FValue}

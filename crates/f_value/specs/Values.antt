@@ -3,7 +3,6 @@ use Rattle.std.specs.Prelude.{ℕ, ℤ, pos, neg_ℤ, ◌&&◌, ◌==◌, Bool, 
 use Rattle.std.specs.Int.Signed.{le_z, lt_z}
 use Rattle.jf_base.specs.declared.numbers.Width.{Width}
 use Rattle.jf_base.specs.declared.numbers.Width.TheVariants.{W1, W2, W4, W8}
-use Rattle.jf_base.specs.declared.tag.Tag.{Tag}
 use Rattle.jf_base.specs.Numbers.{half_of}
 use Rattle.f_value.specs.declared.value.Did.{Did}
 use Rattle.f_value.specs.declared.value.Did.TheVariants.{Done, Violation}

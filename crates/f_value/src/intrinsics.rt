@@ -158,11 +158,7 @@ fn left(v: i128, s: u128, kind: u8) -> Did<FValue>
         return of_bits(0, kind);
     }
     Did::Done(FValue::Int {
-        value: wrap(
-            to_left(bits(v, kind), s as u32) as i128,
-            width(kind),
-            true,
-        ),
+        value: wrap(to_left(bits(v, kind), s as u32) as i128, width(kind), true),
         kind,
     })
 }

@@ -4,10 +4,14 @@
 
 mod integer;
 mod intrinsics;
+mod laws;
 mod operator;
+#[cfg(test)]
+mod tests;
 mod text;
 mod value;
 
 pub use intrinsics::intrinsic;
+pub use laws::{division_leaves_the_remainder, modulo_has_the_sign_of_p, texts_are_ordered};
 pub use operator::{binary, unary};
 pub use value::{Did, FIntrinsic, FOp, FValue};

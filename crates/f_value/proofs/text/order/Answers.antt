@@ -1,4 +1,4 @@
-use Rattle.std.proofs.Common.{arith, ◌≤◌}
+use Rattle.std.proofs.Common.{arith}
 use Rattle.f_value.proofs.Padding.{order_less, order_greater, order_goes_on, order_ends}
 use Rattle.f_value.proofs.text.order.Goals as goal
 
