@@ -1,0 +1,18 @@
+ghost use Rattle.std.specs.Prelude.{◌≡◌, true};
+ghost use Rattle.c_types.specs.Compatible.{are_compatible};
+
+use crate::ctype::CType;
+use crate::table::Types;
+
+/// A law: each type is compatible with itself, in its file and beside a second file with the same table.
+pub fn compatible_with_itself(t: &Types, a: &CType)
+    ensures one_file { are_compatible t.now a.now None a.now ≡ true }
+    ensures two_files { are_compatible t.now a.now (Some t.now) a.now ≡ true }
+{}
+
+/// A law: which of two types stands first makes no difference. (It isn't transitive: an incomplete struct is compatible
+/// with every struct of another file.)
+pub fn compatible_either_way(t: &Types, a: &CType, other: &Types, b: &CType)
+    ensures one_file { are_compatible t.now a.now None b.now ≡ are_compatible t.now b.now None a.now }
+    ensures two_files { are_compatible t.now a.now (Some other.now) b.now ≡ are_compatible other.now b.now (Some t.now) a.now }
+{}

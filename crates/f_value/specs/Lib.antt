@@ -1,0 +1,5 @@
+pub mod Integers
+pub mod Values
+pub mod Operators
+pub mod Texts
+pub mod Intrinsics
