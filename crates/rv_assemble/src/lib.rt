@@ -1,0 +1,10 @@
+//! Lines of assembly and their bytes: labels, branches near and far, and what the linker has to fill in.
+#![tactic(auto)]
+
+mod object;
+mod unit;
+mod words;
+
+pub use object::{ObjUnit, Relocation, RelocationKind};
+pub use unit::{AsmLine, AsmUnit, NamedFix};
+pub use words::parts_of;
