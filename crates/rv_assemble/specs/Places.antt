@@ -35,3 +35,29 @@ FitsInsn i place next target = FitsBranch place next target
 abbrev pub IsConditional : Insn → Type 0
 IsConditional (Jal rd imm) = ⊥
 IsConditional i = IsBranch i
+
+-- a line, with its target given
+abbrev pub LineTo : (code : List ℕ) (place next target : ℕ) → AsmLine → Type 0
+LineTo code place next target (Label label) = next ≡ place
+LineTo code place next target (Plain i) = (next ≡ place + 4) × Stands code place i
+LineTo code place next target (Branch insn to) = Reaches code insn place next target
+LineTo code place next target (Call name) =
+    (next ≡ place + 8) × Stands code place (Auipc 1 0) × Stands code (place + 4) (Jalr 1 1 0)
+LineTo code place next target (Address rd name offset) =
+    (next ≡ place + 8) × Stands code place (Auipc rd 0) × Stands code (place + 4) (Addi rd rd 0)
+
+-- the line's operands are proper
+abbrev pub IsProperFor : AsmLine → Type 0
+IsProperFor (Label label) = Unit {0}
+IsProperFor (Plain i) = IsEncodable i
+IsProperFor (Branch insn to) = IsBranch insn
+IsProperFor (Call name) = Unit {0}
+IsProperFor (Address rd name offset) = rd < 32
+
+-- so many bytes suffice for a line
+abbrev pub FitsLine : AsmLine → (place next target : ℕ) → Type 0
+FitsLine (Label label) place next target = next ≡ place
+FitsLine (Plain i) place next target = next ≡ place + 4
+FitsLine (Branch insn to) place next target = FitsInsn insn place next target
+FitsLine (Call name) place next target = next ≡ place + 8
+FitsLine (Address rd name offset) place next target = next ≡ place + 8

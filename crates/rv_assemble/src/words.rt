@@ -3,8 +3,9 @@ ghost use Rattle.std.specs.Prelude.{◌≡◌, ◌<◌, ◌≤◌, ◌+◌, ◌%
 ghost use Rattle.rv_isa.specs.Encode.{IsEncodable, IsSigned};
 ghost use Rattle.rv_isa.specs.declared.insn.Insn.TheVariants.{Jalr};
 ghost use Rattle.rv_assemble.specs.Lines.{Stands, MakesDistance, Jumps, Branches, Reaches, IsBranch, distance, aimed, opposite};
-ghost use Rattle.rv_assemble.specs.Places.{Keeps, IsInReach, FitsJump, FitsBranch, FitsInsn, IsConditional};
+ghost use Rattle.rv_assemble.specs.Places.{Keeps, IsInReach, FitsJump, FitsBranch, FitsInsn, FitsLine, LineTo, IsProperFor, IsConditional};
 
+use crate::unit::AsmLine;
 use rv_isa::{Insn, encode};
 use std::alloc::AllocError;
 
@@ -99,4 +100,61 @@ fn turned(insn: Insn) -> Insn
         Insn::Bgeu { rs1, rs2, imm } => Insn::Bltu { rs1, rs2, imm },
         _ => insn,
     }
+}
+
+/// Puts a conditional branch from the end of the code to the target; the code then ends at `next`.
+fn put_conditional(code: &mut Vec<u8>, insn: Insn, next: u64, target: u64) -> Result<(), AllocError>
+    requires insn { IsConditional insn }
+    requires fits { FitsBranch (vec_len code.old) next target }
+    ensures len { OnOk result (vec_len code.new ≡ next) }
+    ensures keeps { OnOk result (Keeps code.old.items code.new.items) }
+    ensures branches { OnOk result (Branches code.new.items insn (vec_len code.old) next target) }
+{
+    let place = code.len() as u64;
+    if next - place == 4 {
+        put(code, &aim(insn, target.wrapping_sub(place)))?;
+    } else {
+        put(code, &aim(turned(insn), next - place))?;
+        put_jump(code, 0, next, target)?;
+    }
+    Ok(())
+}
+
+/// Puts a branch or a JAL from the end of the code to the target; the code then ends at `next`.
+fn put_branch(code: &mut Vec<u8>, insn: Insn, next: u64, target: u64) -> Result<(), AllocError>
+    requires insn { IsBranch insn }
+    requires fits { FitsInsn insn (vec_len code.old) next target }
+    ensures len { OnOk result (vec_len code.new ≡ next) }
+    ensures keeps { OnOk result (Keeps code.old.items code.new.items) }
+    ensures reaches { OnOk result (Reaches code.new.items insn (vec_len code.old) next target) }
+{
+    match insn {
+        Insn::Jal { rd, .. } => put_jump(code, rd, next, target)?,
+        _ => put_conditional(code, insn, next, target)?,
+    }
+    Ok(())
+}
+
+/// Puts a line behind the code, which then ends at `next`; a branch goes to `target`.
+pub(crate) fn put_line(code: &mut Vec<u8>, line: &AsmLine, next: u64, target: u64) -> Result<(), AllocError>
+    requires proper { IsProperFor line.now }
+    requires fits { FitsLine line.now (vec_len code.old) next target }
+    ensures len { OnOk result (vec_len code.new ≡ next) }
+    ensures keeps { OnOk result (Keeps code.old.items code.new.items) }
+    ensures line { OnOk result (LineTo code.new.items (vec_len code.old) next target line.now) }
+{
+    match line {
+        AsmLine::Label(_) => {}
+        AsmLine::Plain(insn) => put(code, insn)?,
+        AsmLine::Branch { insn, .. } => put_branch(code, *insn, next, target)?,
+        AsmLine::Call { .. } => {
+            put(code, &Insn::Auipc { rd: 1, imm: 0 })?;
+            put(code, &Insn::Jalr { rd: 1, rs1: 1, imm: 0 })?;
+        }
+        AsmLine::Address { rd, .. } => {
+            put(code, &Insn::Auipc { rd: *rd, imm: 0 })?;
+            put(code, &Insn::Addi { rd: *rd, rs1: *rd, imm: 0 })?;
+        }
+    }
+    Ok(())
 }
