@@ -61,3 +61,50 @@ FitsLine (Plain i) place next target = next ≡ place + 4
 FitsLine (Branch insn to) place next target = FitsInsn insn place next target
 FitsLine (Call name) place next target = next ≡ place + 8
 FitsLine (Address rd name offset) place next target = next ≡ place + 8
+
+-- the bytes of a line at most
+abbrev pub widest_of : AsmLine → ℕ
+widest_of (Label label) = 0
+widest_of (Plain i) = 4
+widest_of (Branch insn to) = 12
+widest_of (Call name) = 8
+widest_of (Address rd name offset) = 8
+
+-- the bytes of a jump and of a branch whose target is at most so far
+abbrev pub jump_size : ℕ → ℕ
+jump_size far = if nat_lt far 1048000 then 4 else 8
+
+abbrev pub branch_size : Insn → ℕ → ℕ
+branch_size (Jal rd imm) far = jump_size far
+branch_size i far = if nat_lt far 4000 then 4 else 4 + jump_size far
+
+abbrev pub size_of_line : AsmLine → ℕ → ℕ
+size_of_line (Label label) far = 0
+size_of_line (Plain i) far = 4
+size_of_line (Branch insn to) far = branch_size insn far
+size_of_line (Call name) far = 8
+size_of_line (Address rd name offset) far = 8
+
+abbrev pub gap : (here there : ℕ) → ℕ
+gap here there = (here - there) + (there - here)
+
+-- the places of lines that take all the bytes that they may take
+pub record AreWide (lines : List AsmLine) (wide : List ℕ) : Type 0 where
+  pub count : length wide ≡ length lines + 1
+  pub begins : slice_index wide 0 ≡ 0
+  pub steps : (k : ℕ) (line : AsmLine) → slice_get lines k ≡ Some line → slice_index wide (k + 1) ≡ slice_index wide k + widest_of line
+  pub small : (k : ℕ) → slice_index wide k < 2000000000
+
+-- the line of each branch's label
+pub record AreTargets (lines : List AsmLine) (targets : List ℕ) : Type 0 where
+  pub count : length targets ≡ length lines
+  pub bound : (k : ℕ) → slice_index targets k ≤ length lines
+  pub labels : (k : ℕ) (insn : Insn) (to : ℕ) → slice_get lines k ≡ Some (Branch insn to) → slice_get lines (slice_index targets k) ≡ Some (Label to)
+
+-- the places of the lines, each as long as its target's distance in the widest layout asks
+pub record ArePlaces (lines : List AsmLine) (targets wide places : List ℕ) : Type 0 where
+  pub count : length places ≡ length lines + 1
+  pub begins : slice_index places 0 ≡ 0
+  pub steps : (k : ℕ) (line : AsmLine) → slice_get lines k ≡ Some line
+      → slice_index places (k + 1) ≡ slice_index places k + size_of_line line (gap (slice_index wide k) (slice_index wide (slice_index targets k)))
+  pub narrow : (k : ℕ) → slice_index places k ≤ slice_index wide k

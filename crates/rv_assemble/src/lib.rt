@@ -2,6 +2,7 @@
 #![tactic(auto)]
 
 mod object;
+mod places;
 mod unit;
 mod words;
 
