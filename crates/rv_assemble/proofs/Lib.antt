@@ -1,3 +1,4 @@
 pub mod Kept
 pub mod Aimed
 pub mod Pushed
+pub mod Found

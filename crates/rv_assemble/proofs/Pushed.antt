@@ -29,10 +29,10 @@ index-new xs y k e = grind (arith, common_steps)
 abbrev pub Steps : (lines : List AsmLine) (xs : List ℕ) (size : ℕ → AsmLine → ℕ) (n : ℕ) → Type 0
 Steps lines xs size n = (k : ℕ) (line : AsmLine) → k < n → slice_get lines k ≡ Some line → slice_index xs (k + 1) ≡ slice_index xs k + size k line
 
-same_line : (a b : AsmLine) → Some a ≡ Some b → a ≡ b
+pub same_line : (a b : AsmLine) → Some a ≡ Some b → a ≡ b
 same_line a b e = cc
 
-last_or_before : (k n : ℕ) → k < n + 1 → (k < n) ⊎ (k ≡ n)
+pub last_or_before : (k n : ℕ) → k < n + 1 → (k < n) ⊎ (k ≡ n)
 last_or_before k n l = grind arith
 
 pub steps-more : (lines : List AsmLine) (xs : List ℕ) (size : ℕ → AsmLine → ℕ) (n y : ℕ) (here : AsmLine)

@@ -1,5 +1,5 @@
 -- What the assembler's own functions keep.
-use Rattle.std.specs.Prelude.{ℕ, ◌≡◌, ◌<◌, ◌≤◌, ◌+◌, ◌-◌, ◌*◌, ◌%◌, ◌^◌, ◌⊎◌, nat_lt, if◌then◌else◌, List, [], ◌∷◌, ◌++◌, length, slice_index, slice_get, Option, Some, None}
+use Rattle.std.specs.Prelude.{ℕ, ◌≡◌, ◌<◌, ◌≤◌, ◌+◌, ◌-◌, ◌*◌, ◌%◌, ◌^◌, ◌⊎◌, nat_lt, ◌==◌, unwrap_or, if◌then◌else◌, List, [], ◌∷◌, ◌++◌, length, slice_index, slice_get, Option, Some, None}
 use Rattle.rv_isa.specs.declared.insn.Insn.{Insn}
 use Rattle.rv_isa.specs.declared.insn.Insn.TheVariants.{Auipc, Jal, Jalr, Beq, Bne, Blt, Bge, Bltu, Bgeu, Addi}
 use Rattle.rv_isa.specs.Encode.{IsEncodable, IsSigned}
@@ -108,3 +108,18 @@ pub record ArePlaces (lines : List AsmLine) (targets wide places : List ℕ) : T
   pub steps : (k : ℕ) (line : AsmLine) → slice_get lines k ≡ Some line
       → slice_index places (k + 1) ≡ slice_index places k + size_of_line line (gap (slice_index wide k) (slice_index wide (slice_index targets k)))
   pub narrow : (k : ℕ) → slice_index places k ≤ slice_index wide k
+
+-- the line of each label, by number, as far as the first n lines have it
+pub record AreLabelLines (lines : List AsmLine) (n : ℕ) (line_of : ℕ → Option ℕ) : Type 0 where
+  pub sound : (label k : ℕ) → line_of label ≡ Some k → slice_get lines k ≡ Some (Label label)
+  pub full : (label k : ℕ) → k < n → slice_get lines k ≡ Some (Label label) → (j : ℕ) × (line_of label ≡ Some j)
+
+-- the line of a branch's label, and 0 for another line
+abbrev pub target_by : (ℕ → Option ℕ) → AsmLine → ℕ
+target_by line_of (Branch insn to) = unwrap_or (line_of to) 0
+target_by line_of _ = 0
+
+-- with a label's line, if this is a label
+abbrev pub with_label : (ℕ → Option ℕ) → ℕ → AsmLine → ℕ → Option ℕ
+with_label line_of k (Label label) l = if label == l then Some k else line_of l
+with_label line_of k _ l = line_of l
