@@ -2,3 +2,4 @@ pub mod Kept
 pub mod Aimed
 pub mod Pushed
 pub mod Found
+pub mod Fits

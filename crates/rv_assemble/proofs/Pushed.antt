@@ -59,8 +59,8 @@ pub record WideTo (lines : List AsmLine) (wide : List ℕ) (n end : ℕ) : Type 
   pub count : length wide ≡ n + 1
   pub begins : slice_index wide 0 ≡ 0
   pub ends : slice_index wide n ≡ end
-  pub below : end < 2000000000
-  pub small : (k : ℕ) → slice_index wide k < 2000000000
+  pub below : end < 1999999990
+  pub small : (k : ℕ) → slice_index wide k < 1999999990
   pub steps : Steps lines wide (λ k line. widest_of line) n
 
 pub wide-none : (lines : List AsmLine) → WideTo lines (0 ∷ []) 0 0
@@ -69,18 +69,18 @@ wide-none lines = record {
   begins = refl;
   ends = refl;
   below = omega arith;
-  small = small-more [] 0 2000000000 (λ k. lit< tt) (omega arith);
+  small = small-more [] 0 1999999990 (λ k. lit< tt) (omega arith);
   steps = λ k line l g. absurd (omega arith);
 }
 
 pub wide-more : (lines : List AsmLine) (xs : List ℕ) (n end : ℕ) (here : AsmLine) → WideTo lines xs n end → slice_get lines n ≡ Some here
-    → end + widest_of here < 2000000000 → WideTo lines (xs ++ (end + widest_of here) ∷ []) (n + 1) (end + widest_of here)
+    → end + widest_of here < 1999999990 → WideTo lines (xs ++ (end + widest_of here) ∷ []) (n + 1) (end + widest_of here)
 wide-more lines xs n end here h g l = record {
   count = simp length-append (omega (arith, h.count));
   begins = index-old xs (end + widest_of here) 0 (omega (arith, h.count)) ∙ h.begins;
   ends = index-new xs (end + widest_of here) (n + 1) (omega (arith, h.count));
   below = l;
-  small = small-more xs (end + widest_of here) 2000000000 h.small l;
+  small = small-more xs (end + widest_of here) 1999999990 h.small l;
   steps = steps-more lines xs (λ k line. widest_of line) n (end + widest_of here) here h.count h.steps g (ap (λ m. m + widest_of here) (sym h.ends));
 }
 

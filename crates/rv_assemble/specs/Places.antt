@@ -93,7 +93,7 @@ pub record AreWide (lines : List AsmLine) (wide : List ℕ) : Type 0 where
   pub count : length wide ≡ length lines + 1
   pub begins : slice_index wide 0 ≡ 0
   pub steps : (k : ℕ) (line : AsmLine) → slice_get lines k ≡ Some line → slice_index wide (k + 1) ≡ slice_index wide k + widest_of line
-  pub small : (k : ℕ) → slice_index wide k < 2000000000
+  pub small : (k : ℕ) → slice_index wide k < 1999999990
 
 -- the line of each branch's label
 pub record AreTargets (lines : List AsmLine) (targets : List ℕ) : Type 0 where
@@ -123,3 +123,18 @@ target_by line_of _ = 0
 abbrev pub with_label : (ℕ → Option ℕ) → ℕ → AsmLine → ℕ → Option ℕ
 with_label line_of k (Label label) l = if label == l then Some k else line_of l
 with_label line_of k _ l = line_of l
+
+-- each line suffices for what it has to do
+pub record AreFitting (lines : List AsmLine) (targets places : List ℕ) : Type 0 where
+  pub count : length places ≡ length lines + 1
+  pub target_count : length targets ≡ length lines
+  pub bound : (k : ℕ) → slice_index targets k ≤ length lines
+  pub begins : slice_index places 0 ≡ 0
+  pub fits : (k : ℕ) (line : AsmLine) → slice_get lines k ≡ Some line
+      → FitsLine line (slice_index places k) (slice_index places (k + 1)) (slice_index places (slice_index targets k))
+
+-- the code of the first n lines
+pub record IsCodeTo (lines : List AsmLine) (targets places : List ℕ) (n : ℕ) (code : List ℕ) : Type 0 where
+  pub ends : length code ≡ slice_index places n
+  pub each : (k : ℕ) (line : AsmLine) → k < n → slice_get lines k ≡ Some line
+      → LineTo code (slice_index places k) (slice_index places (k + 1)) (slice_index places (slice_index targets k)) line

@@ -61,7 +61,7 @@ pub(crate) fn wide_places(alloc: Global, lines: &[AsmLine]) -> Result<Vec<u64>, 
     let mut end = 0;
     wide.push(end)?;
     for line in lines {
-        if end >= LIMIT - 12 {
+        if end >= LIMIT - 22 {
             return Err(AllocError);
         }
         end += widest(line);

@@ -13,7 +13,7 @@ loop-line-preserved c =
     let here = c.line-item.result in
     let g = slice_get_read lines (length lines) n here refl (omega arith) c.line-item.is in
     let e : old + c.widest-end.result ≡ old + widest_of here = ap (λ (m : ℕ). old + m) c.widest-end.ensures in
-    let l : old + widest_of here < 2000000000 = omega (arith, widest-le here) in
+    let l : old + widest_of here < 1999999990 = omega (arith, widest-le here) in
     let items : c.push-in-loop-line.new.self.items ≡ c.loop-line.wide.items ++ (old + widest_of here) ∷ [] = c.in_ok-push-2.ensures.items ∙ ap (λ (y : ℕ). c.loop-line.wide.items ++ y ∷ []) e in
     subst (λ (ys : List ℕ). WideTo lines ys (n + 1) (old + c.widest-end.result)) (sym items)
       (subst (λ (y : ℕ). WideTo lines (c.loop-line.wide.items ++ (old + widest_of here) ∷ []) (n + 1) y) (sym e)
