@@ -3,3 +3,4 @@ pub mod Aimed
 pub mod Pushed
 pub mod Found
 pub mod Fits
+pub mod Coded

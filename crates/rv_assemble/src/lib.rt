@@ -1,6 +1,7 @@
 //! Lines of assembly and their bytes: labels, branches near and far, and what the linker has to fill in.
 #![tactic(auto)]
 
+mod assemble;
 mod labels;
 mod object;
 mod places;
