@@ -2,13 +2,14 @@
 use Rattle.std.proofs.Common.{◌≡◌, ℕ, zero, suc, ◌+◌, ◌*◌, ◌<◌, ◌≤◌, ◌⊎◌, inl, inr, List, [], ◌∷◌, ◌++◌, length, take, refl, sym, ap, ◌∙◌, subst, arith}
 use Rattle.std.specs.Prelude.{slice_index, slice_get, Option, Some}
 use Rattle.std.proofs.lemmas.List.{append_assoc, append-nil}
-use Rattle.std.proofs.lemmas.Grind.{common_steps}
+use Rattle.std.proofs.lemmas.Option.{slice_get_within}
 use Rattle.rv_isa.specs.declared.insn.Insn.{Insn}
 use Rattle.rv_isa.specs.declared.insn.Insn.TheVariants.{Auipc, Jalr, Addi}
 use Rattle.rv_assemble.specs.declared.unit.AsmLine.{AsmLine}
 use Rattle.rv_assemble.specs.declared.unit.AsmLine.TheVariants.{Label, Plain, Branch, Call, Address}
+use Rattle.rv_assemble.specs.declared.unit.NamedFix.{NamedFix}
 use Rattle.rv_assemble.specs.declared.object.Relocation.{Relocation}
-use Rattle.rv_assemble.specs.Lines.{IsProperLine, AreProperLines, LineAt, asked_by, asked_by_lines}
+use Rattle.rv_assemble.specs.Lines.{IsProperLine, AreProperLines, LineAt, asked_by, asked_by_lines, asked_by_fix, asked_by_fixes}
 use Rattle.rv_assemble.specs.Places.{Keeps, LineTo, IsProperFor, IsCodeTo, AreTargets}
 use Rattle.rv_assemble.proofs.Kept.{Stands-kept, Reaches-kept}
 use Rattle.rv_assemble.proofs.Pushed.{last_or_before, same_line}
@@ -58,3 +59,42 @@ asked-more j (suc n) (line ∷ lines) places here g =
     ∙ ap (λ (rs : List Relocation). first ++ rs) (asked-more (j + 1) n lines places here g)
     ∙ sym (append_assoc first (asked_by_lines (j + 1) (take n lines) places) (asked_by (slice_index places (j + 1 + n)) here))
     ∙ ap (λ (m : ℕ). (first ++ asked_by_lines (j + 1) (take n lines) places) ++ asked_by (slice_index places m) here) f
+
+same_fix : (a b : NamedFix) → Some a ≡ Some b → a ≡ b
+same_fix a b e = cc
+
+-- the fixes' requests, with one more fix
+pub fixes-more : (code_len k : ℕ) (fixes : List NamedFix) (fix : NamedFix) → slice_get fixes k ≡ Some fix
+    → asked_by_fixes code_len (take (k + 1) fixes) ≡ asked_by_fixes code_len (take k fixes) ++ asked_by_fix code_len fix ∷ []
+fixes-more code_len k [] fix g = cc
+fixes-more code_len zero (f ∷ fixes) fix g = ap (λ (x : NamedFix). asked_by_fix code_len x ∷ []) (same_fix f fix g)
+fixes-more code_len (suc k) (f ∷ fixes) fix g =
+    let e : suc k + 1 ≡ suc (k + 1) = omega arith in
+    ap (λ (m : ℕ). asked_by_fixes code_len (take m (f ∷ fixes))) e ∙ ap (λ (rs : List Relocation). asked_by_fix code_len f ∷ rs) (fixes-more code_len k fixes fix g)
+
+line-at : (lines : List AsmLine) (targets places code : List ℕ) (k next : ℕ) (line : AsmLine) → AreTargets lines targets → slice_get lines k ≡ Some line
+    → LineTo code (slice_index places k) next (slice_index places (slice_index targets k)) line → LineAt lines places code (slice_index places k) next line
+line-at lines targets places code k next (Label label) ht g t = t
+line-at lines targets places code k next (Plain i) ht g t = t
+line-at lines targets places code k next (Branch insn to) ht g t = (slice_index targets k, ht.labels k insn to g, t)
+line-at lines targets places code k next (Call name) ht g t = t
+line-at lines targets places code k next (Address rd name offset) ht g t = t
+
+-- each line stands at its place, and the code ends with the last
+pub record AreAt (lines : List AsmLine) (places code : List ℕ) : Type 0 where
+  pub each : (k : ℕ) (line : AsmLine) → slice_get lines k ≡ Some line → LineAt lines places code (slice_index places k) (slice_index places (k + 1)) line
+  pub ends : slice_index places (length lines) ≡ length code
+
+lines-at : (lines : List AsmLine) (targets places code : List ℕ) → AreTargets lines targets → IsCodeTo lines targets places (length lines) code → AreAt lines places code
+lines-at lines targets places code ht h = record {
+  each = λ k line g. line-at lines targets places code k (slice_index places (k + 1)) line ht g (h.each k line (slice_get_within lines k line g) g);
+  ends = sym h.ends;
+}
+
+-- the same where the lists were read through references
+pub lines-read : (lines0 lines : List AsmLine) (targets targets3 places places4 code code0 : List ℕ) → lines0 ≡ lines → targets3 ≡ targets → places4 ≡ places → code ≡ code0
+    → AreTargets lines0 targets → IsCodeTo lines0 targets3 places4 (length lines0) code0 → AreAt lines places code
+lines-read lines0 lines targets targets3 places places4 code code0 el et ep ec ht h =
+    let h1 = subst (λ (t : List ℕ). IsCodeTo lines0 t places4 (length lines0) code0) et h in
+    let h2 = subst (λ (p : List ℕ). IsCodeTo lines0 targets p (length lines0) code0) ep h1 in
+    subst (λ (c : List ℕ). AreAt lines places c) (sym ec) (subst (λ (ls : List AsmLine). AreAt ls places code0) el (lines-at lines0 targets places code0 ht h2))

@@ -153,3 +153,11 @@ module _ (lines : List AsmLine) (targets wide places : List ℕ) (hw : AreWide l
         line_fits line (slice_index places k) (slice_index places t) (gap (slice_index wide k) (slice_index wide t)) (slice_index places (k + 1))
           (hp.steps k line g) c.0 c.1 sp sq (fours k (omega arith)) (fours t (ht.bound k));
   }
+
+-- the same where the lists were read through references
+pub fitting-read : (lines : List AsmLine) (targets targets1 targets3 wide wide2 places places4 : List ℕ) → targets1 ≡ targets → targets3 ≡ targets → wide2 ≡ wide → places4 ≡ places
+    → AreTargets lines targets → AreWide lines wide → ArePlaces lines targets1 wide2 places → AreFitting lines targets3 places4
+fitting-read lines targets targets1 targets3 wide wide2 places places4 e1 e3 e2 e4 ht hw hp =
+    let hp1 = subst (λ (w : List ℕ). ArePlaces lines targets1 w places) e2 hp in
+    let hp2 = subst (λ (t : List ℕ). ArePlaces lines t wide places) e1 hp1 in
+    subst (λ (t : List ℕ). AreFitting lines t places4) (sym e3) (subst (λ (p : List ℕ). AreFitting lines targets p) (sym e4) (fitting lines targets wide places hw ht hp2))

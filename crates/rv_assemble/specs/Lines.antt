@@ -92,10 +92,12 @@ asked_by_lines k [] places = []
 asked_by_lines k (line ∷ lines) places = asked_by (slice_index places k) line ++ asked_by_lines (k + 1) lines places
 
 -- what the fixes ask, behind so much code
+abbrev pub asked_by_fix : (code_len : ℕ) → NamedFix → Relocation
+asked_by_fix code_len fix = record { at = code_len + fix.at; name = fix.name; offset = fix.offset; kind = Word }
+
 abbrev pub asked_by_fixes : (code_len : ℕ) → List NamedFix → List Relocation
 asked_by_fixes code_len [] = []
-asked_by_fixes code_len (f ∷ fixes) =
-    record { at = code_len + f.at; name = f.name; offset = f.offset; kind = Word } ∷ asked_by_fixes code_len fixes
+asked_by_fixes code_len (fix ∷ fixes) = asked_by_fix code_len fix ∷ asked_by_fixes code_len fixes
 
 -- the object is the unit's: its lines at their places one behind the other, its image, its name at its start, and all that it asks for
 pub record IsAssembled (u : AsmUnit) (o : ObjUnit) : Type 0 where
@@ -130,3 +132,8 @@ IsProperLine lines (Address rd name offset) = rd < 32
 -- each line can be assembled, and each label that is named stands on a line
 abbrev pub AreProperLines : List AsmLine → Type 0
 AreProperLines lines = (k : ℕ) (line : AsmLine) → slice_get lines k ≡ Some line → IsProperLine lines line
+
+-- a unit that can be assembled
+pub record IsProperUnit (u : AsmUnit) : Type 0 where
+  pub lines : AreProperLines u.lines
+  pub fixes : (k : ℕ) (fix : NamedFix) → slice_get u.fixes k ≡ Some fix → fix.at + 8 ≤ length u.image

@@ -3,7 +3,7 @@ use Rattle.std.specs.Prelude.{slice_get, slice_index, Some, vec_len}
 use Rattle.std.proofs.lemmas.Option.{slice_get_read}
 use Rattle.rv_assemble.specs.Places.{FitsLine, LineTo}
 use Rattle.rv_assemble.proofs.Coded.{proper-for, code-more}
-use Rattle.rv_assemble.proofs.assemble.code_of.Goals as goal
+use Rattle.rv_assemble.proofs.assembling.code_of.Goals as goal
 
 pub put_line-requires-clause-proper : goal.put_line-requires-clause-proper
 put_line-requires-clause-proper c =

@@ -4,7 +4,7 @@ use Rattle.std.proofs.lemmas.Option.{slice_get_read}
 use Rattle.rv_assemble.specs.declared.object.Relocation.{Relocation}
 use Rattle.rv_assemble.specs.Lines.{asked_by, asked_by_lines}
 use Rattle.rv_assemble.proofs.Coded.{asked-more}
-use Rattle.rv_assemble.proofs.assemble.asked_of_lines.Goals as goal
+use Rattle.rv_assemble.proofs.assembling.asked_of_lines.Goals as goal
 
 pub loop-k-preserved : goal.loop-k-preserved
 loop-k-preserved c =
