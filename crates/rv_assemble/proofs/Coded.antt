@@ -35,11 +35,12 @@ pub code-more : (lines : List AsmLine) (targets places : List ℕ) (n : ℕ) (a 
 code-more lines targets places n a b here h g keeps e to = record {
   ends = e;
   each = λ k line l gk. elim (last_or_before k n l) [
-      inl before ↦ LineTo-kept keeps (slice_index places k) (slice_index places (k + 1)) (slice_index places (slice_index targets k)) line (h.each k line before gk)
+    | inl before ↦ LineTo-kept keeps (slice_index places k) (slice_index places (k + 1)) (slice_index places (slice_index targets k)) line (h.each k line before gk)
     | inr s ↦
         let same = same_line here line (sym g ∙ subst (λ (m : ℕ). slice_get lines m ≡ Some line) s gk) in
         subst (λ (m : ℕ). LineTo b (slice_index places m) (slice_index places (m + 1)) (slice_index places (slice_index targets m)) line) (sym s)
-          (subst (λ (i : AsmLine). LineTo b (slice_index places n) (slice_index places (n + 1)) (slice_index places (slice_index targets n)) i) same to) ];
+        (subst (λ (i : AsmLine). LineTo b (slice_index places n) (slice_index places (n + 1)) (slice_index places (slice_index targets n)) i) same to)
+  ];
 }
 
 -- the lines' requests, with one more line

@@ -86,9 +86,9 @@ module _ (lines : List AsmLine) (targets wide places : List ℕ) (hw : AreWide l
   -- one line: it takes no more than at most, and a multiple of 4
   one : (k : ℕ) → k < length lines
       → (slice_index places k ≤ slice_index places (k + 1))
-        × (slice_index places (k + 1) + slice_index wide k ≤ slice_index places k + slice_index wide (k + 1))
-        × (slice_index places k % 4 ≡ 0 → slice_index places (k + 1) % 4 ≡ 0)
-        × (slice_index wide k ≤ slice_index wide (k + 1))
+      × (slice_index places (k + 1) + slice_index wide k ≤ slice_index places k + slice_index wide (k + 1))
+      × (slice_index places k % 4 ≡ 0 → slice_index places (k + 1) % 4 ≡ 0)
+      × (slice_index wide k ≤ slice_index wide (k + 1))
   one k l =
       let line = get_or lines k (Label 0) in
       let g = slice_get-get_or lines k (Label 0) l in
@@ -101,18 +101,20 @@ module _ (lines : List AsmLine) (targets wide places : List ℕ) (hw : AreWide l
 
   spread : (d i : ℕ) → i + d ≤ length lines
       → (slice_index places i ≤ slice_index places (i + d)) × (slice_index places (i + d) + slice_index wide i ≤ slice_index places i + slice_index wide (i + d))
-        × (slice_index wide i ≤ slice_index wide (i + d))
-  spread zero i l = let e : i + 0 ≡ i = omega arith in
-      (subst (λ (m : ℕ). slice_index places i ≤ slice_index places m) (sym e) (omega arith),
-       subst (λ (m : ℕ). slice_index places m + slice_index wide i ≤ slice_index places i + slice_index wide m) (sym e) (omega arith),
-       subst (λ (m : ℕ). slice_index wide i ≤ slice_index wide m) (sym e) (omega arith))
+      × (slice_index wide i ≤ slice_index wide (i + d))
+  spread zero i l = let e : i + 0 ≡ i = omega arith in (
+    subst (λ (m : ℕ). slice_index places i ≤ slice_index places m) (sym e) (omega arith),
+    subst (λ (m : ℕ). slice_index places m + slice_index wide i ≤ slice_index places i + slice_index wide m) (sym e) (omega arith),
+    subst (λ (m : ℕ). slice_index wide i ≤ slice_index wide m) (sym e) (omega arith),
+  )
   spread (suc d) i l =
       let before = spread d i (omega arith) in
       let last = one (i + d) (omega arith) in
-      let e : i + suc d ≡ i + d + 1 = omega arith in
-      (subst (λ (m : ℕ). slice_index places i ≤ slice_index places m) (sym e) (omega (arith, before.0, last.0)),
-       subst (λ (m : ℕ). slice_index places m + slice_index wide i ≤ slice_index places i + slice_index wide m) (sym e) (omega (arith, before.1, last.1)),
-       subst (λ (m : ℕ). slice_index wide i ≤ slice_index wide m) (sym e) (omega (arith, before.2, last.3)))
+      let e : i + suc d ≡ i + d + 1 = omega arith in (
+        subst (λ (m : ℕ). slice_index places i ≤ slice_index places m) (sym e) (omega (arith, before.0, last.0)),
+        subst (λ (m : ℕ). slice_index places m + slice_index wide i ≤ slice_index places i + slice_index wide m) (sym e) (omega (arith, before.1, last.1)),
+        subst (λ (m : ℕ). slice_index wide i ≤ slice_index wide m) (sym e) (omega (arith, before.2, last.3)),
+      )
 
   fours : (k : ℕ) → k ≤ length lines → slice_index places k % 4 ≡ 0
   fours zero l = ap (λ (n : ℕ). n % 4) hp.begins
@@ -122,9 +124,9 @@ module _ (lines : List AsmLine) (targets wide places : List ℕ) (hw : AreWide l
   -- two lines are no further from one another than in the widest layout
   close : (i j : ℕ) → i ≤ length lines → j ≤ length lines
       → (slice_index places i ≤ slice_index places j + gap (slice_index wide i) (slice_index wide j))
-        × (slice_index places j ≤ slice_index places i + gap (slice_index wide i) (slice_index wide j))
+      × (slice_index places j ≤ slice_index places i + gap (slice_index wide i) (slice_index wide j))
   close i j li lj = elim (cases i j) [
-      inl l ↦
+    | inl l ↦
         let s = spread (j - i) i (omega arith) in
         let e : i + (j - i) ≡ j = omega arith in
         let t = subst (λ (m : ℕ). (slice_index places i ≤ slice_index places m) × (slice_index places m + slice_index wide i ≤ slice_index places i + slice_index wide m) × (slice_index wide i ≤ slice_index wide m)) e s in
@@ -133,7 +135,8 @@ module _ (lines : List AsmLine) (targets wide places : List ℕ) (hw : AreWide l
         let s = spread (i - j) j (omega arith) in
         let e : j + (i - j) ≡ i = omega arith in
         let t = subst (λ (m : ℕ). (slice_index places j ≤ slice_index places m) × (slice_index places m + slice_index wide j ≤ slice_index places j + slice_index wide m) × (slice_index wide j ≤ slice_index wide m)) e s in
-        (omega (arith, t.0, t.1, t.2), omega (arith, t.0, t.1, t.2)) ]
+        (omega (arith, t.0, t.1, t.2), omega (arith, t.0, t.1, t.2))
+  ]
     where
       cases : (i j : ℕ) → (i ≤ j) ⊎ (j ≤ i)
       cases i j = grind arith
@@ -151,7 +154,7 @@ module _ (lines : List AsmLine) (targets wide places : List ℕ) (hw : AreWide l
         let sp : slice_index places k < 1999999990 = omega (arith, hp.narrow k, hw.small k) in
         let sq : slice_index places t < 1999999990 = omega (arith, hp.narrow t, hw.small t) in
         line_fits line (slice_index places k) (slice_index places t) (gap (slice_index wide k) (slice_index wide t)) (slice_index places (k + 1))
-          (hp.steps k line g) c.0 c.1 sp sq (fours k (omega arith)) (fours t (ht.bound k));
+        (hp.steps k line g) c.0 c.1 sp sq (fours k (omega arith)) (fours t (ht.bound k));
   }
 
 -- the same where the lists were read through references

@@ -42,8 +42,9 @@ module _ (lines : List AsmLine) (n : ℕ) (find : ℕ → Option ℕ) (h : AreLa
 
   more_full : (here : AsmLine) → slice_get lines n ≡ Some here → (l k : ℕ) → k < n + 1 → slice_get lines k ≡ Some (Label l) → (j : ℕ) × (with_label find n here l ≡ Some j)
   more_full here g l k lt gk = elim (last_or_before k n lt) [
-      inl b ↦ stays here l (h.full l k b gk)
-    | inr s ↦ found_here here l (same_line here (Label l) (sym g ∙ subst (λ (m : ℕ). slice_get lines m ≡ Some (Label l)) s gk)) ]
+    | inl b ↦ stays here l (h.full l k b gk)
+    | inr s ↦ found_here here l (same_line here (Label l) (sym g ∙ subst (λ (m : ℕ). slice_get lines m ≡ Some (Label l)) s gk))
+  ]
 
   pub labels-more : (here : AsmLine) (find' : ℕ → Option ℕ) → slice_get lines n ≡ Some here → ((l : ℕ) → find' l ≡ with_label find n here l) → AreLabelLines lines (n + 1) find'
   labels-more here find' g e = record {
@@ -55,8 +56,9 @@ pub each-more : (lines : List AsmLine) (xs : List ℕ) (value : AsmLine → ℕ)
     → ((k : ℕ) (line : AsmLine) → k < n → slice_get lines k ≡ Some line → slice_index xs k ≡ value line) → slice_get lines n ≡ Some here → y ≡ value here
     → (k : ℕ) (line : AsmLine) → k < n + 1 → slice_get lines k ≡ Some line → slice_index (xs ++ y ∷ []) k ≡ value line
 each-more lines xs value n y here c h g e k line l gk = elim (last_or_before k n l) [
-    inl b ↦ index-old xs y k (omega arith) ∙ h k line b gk
-  | inr s ↦ index-new xs y k (omega arith) ∙ e ∙ ap value (same_line here line (sym g ∙ subst (λ (m : ℕ). slice_get lines m ≡ Some line) s gk)) ]
+  | inl b ↦ index-old xs y k (omega arith) ∙ h k line b gk
+  | inr s ↦ index-new xs y k (omega arith) ∙ e ∙ ap value (same_line here line (sym g ∙ subst (λ (m : ℕ). slice_get lines m ≡ Some line) s gk))
+]
 
 past : (xs : List ℕ) (k : ℕ) → length xs ≤ k → slice_index xs k ≡ 0
 past [] k l = grind (arith, common_steps)

@@ -4,3 +4,4 @@ pub mod Pushed
 pub mod Found
 pub mod Fits
 pub mod Coded
+pub mod Proper

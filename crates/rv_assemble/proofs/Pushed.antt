@@ -38,7 +38,7 @@ last_or_before k n l = grind arith
 pub steps-more : (lines : List AsmLine) (xs : List ℕ) (size : ℕ → AsmLine → ℕ) (n y : ℕ) (here : AsmLine)
     → length xs ≡ n + 1 → Steps lines xs size n → slice_get lines n ≡ Some here → y ≡ slice_index xs n + size n here → Steps lines (xs ++ y ∷ []) size (n + 1)
 steps-more lines xs size n y here e h g q k line l gk = elim (last_or_before k n l) [
-    inl b ↦ index-old xs y (k + 1) (omega arith) ∙ h k line b gk ∙ ap (λ m. m + size k line) (sym (index-old xs y k (omega arith)))
+  | inl b ↦ index-old xs y (k + 1) (omega arith) ∙ h k line b gk ∙ ap (λ m. m + size k line) (sym (index-old xs y k (omega arith)))
   | inr s ↦
       let P : ℕ → Type 0 = λ m. slice_get lines m ≡ Some line in
       let gn : slice_get lines n ≡ Some line = subst P s gk in
@@ -47,7 +47,7 @@ steps-more lines xs size n y here e h g q k line l gk = elim (last_or_before k n
       let old : slice_index (xs ++ y ∷ []) k ≡ slice_index xs k = index-old xs y k (omega arith) in
       let at : slice_index xs n + size n here ≡ slice_index xs k + size k line = ap (λ m. slice_index xs m + size m here) (sym s) ∙ ap (λ i. slice_index xs k + size k i) same in
       new ∙ q ∙ at ∙ ap (λ m. m + size k line) (sym old)
-  ]
+]
 
 pub small-more : (xs : List ℕ) (y most : ℕ) → ((k : ℕ) → slice_index xs k < most) → y < most → (k : ℕ) → slice_index (xs ++ y ∷ []) k < most
 small-more [] y most h l k = grind (arith, common_steps)
@@ -150,11 +150,12 @@ places-none lines targets wide = record {
 narrow-more : (xs wide : List ℕ) (y : ℕ) → ((k : ℕ) → slice_index xs k ≤ slice_index wide k) → y ≤ slice_index wide (length xs) → (k : ℕ)
     → slice_index (xs ++ y ∷ []) k ≤ slice_index wide k
 narrow-more xs wide y h l k = elim (three k (length xs)) [
-    inl b ↦ subst (λ (m : ℕ). m ≤ slice_index wide k) (sym (index-old xs y k b)) (h k)
+  | inl b ↦ subst (λ (m : ℕ). m ≤ slice_index wide k) (sym (index-old xs y k b)) (h k)
   | inr s ↦ elim s [
-      inl e ↦ subst (λ (m : ℕ). m ≤ slice_index wide k) (sym (index-new xs y k e)) (subst (λ (m : ℕ). y ≤ slice_index wide m) (sym e) l)
-    | inr a ↦ let z : slice_index (xs ++ y ∷ []) k ≡ 0 = index-past xs y k a in omega (arith, z) ]
+    | inl e ↦ subst (λ (m : ℕ). m ≤ slice_index wide k) (sym (index-new xs y k e)) (subst (λ (m : ℕ). y ≤ slice_index wide m) (sym e) l)
+    | inr a ↦ let z : slice_index (xs ++ y ∷ []) k ≡ 0 = index-past xs y k a in omega (arith, z)
   ]
+]
   where
     three : (k n : ℕ) → (k < n) ⊎ ((k ≡ n) ⊎ (n < k))
     three k n = grind arith

@@ -55,7 +55,11 @@ fn ask(asked: &mut Vec<Relocation>, line: &AsmLine, place: u64) -> Result<(), Al
 }
 
 /// What the lines ask of the linker.
-fn asked_of_lines(alloc: Global, lines: &[AsmLine], places: &[u64]) -> Result<Vec<Relocation>, AllocError>
+fn asked_of_lines(
+    alloc: Global,
+    lines: &[AsmLine],
+    places: &[u64],
+) -> Result<Vec<Relocation>, AllocError>
     requires { length places.now ≡ length lines.now + 1 }
     ensures { IfOk result (λ asked. asked.items ≡ asked_by_lines 0 lines.now places.now) }
 {
@@ -67,7 +71,11 @@ fn asked_of_lines(alloc: Global, lines: &[AsmLine], places: &[u64]) -> Result<Ve
 }
 
 /// Adds what the fixes ask, behind so much code.
-fn ask_fixes(asked: &mut Vec<Relocation>, fixes: &[NamedFix], code_len: u64) -> Result<(), AllocError>
+fn ask_fixes(
+    asked: &mut Vec<Relocation>,
+    fixes: &[NamedFix],
+    code_len: u64,
+) -> Result<(), AllocError>
     requires code { code_len < 2000000000 }
     requires fixes { (k : ℕ) (fix : NamedFix) → slice_get fixes.now k ≡ Some fix → fix.at < 2000000000 }
     ensures { OnOk result (asked.new.items ≡ asked.old.items ++ asked_by_fixes code_len fixes.now) }

@@ -5,6 +5,8 @@ mod assembling;
 mod labels;
 mod object;
 mod places;
+#[cfg(test)]
+mod tests;
 mod unit;
 mod words;
 

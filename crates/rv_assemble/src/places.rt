@@ -32,13 +32,7 @@ fn size_of_branch(insn: &Insn, far: u64) -> u64
 {
     match insn {
         Insn::Jal { .. } => size_of_jump(far),
-        _ => {
-            if far < 4000 {
-                4
-            } else {
-                4 + size_of_jump(far)
-            }
-        }
+        _ => { if far < 4000 { 4 } else { 4 + size_of_jump(far) } }
     }
 }
 

@@ -136,7 +136,12 @@ fn put_branch(code: &mut Vec<u8>, insn: Insn, next: u64, target: u64) -> Result<
 }
 
 /// Puts a line behind the code, which then ends at `next`; a branch goes to `target`.
-pub(crate) fn put_line(code: &mut Vec<u8>, line: &AsmLine, next: u64, target: u64) -> Result<(), AllocError>
+pub(crate) fn put_line(
+    code: &mut Vec<u8>,
+    line: &AsmLine,
+    next: u64,
+    target: u64,
+) -> Result<(), AllocError>
     requires proper { IsProperFor line.now }
     requires fits { FitsLine line.now (vec_len code.old) next target }
     ensures len { OnOk result (vec_len code.new ≡ next) }
@@ -149,11 +154,25 @@ pub(crate) fn put_line(code: &mut Vec<u8>, line: &AsmLine, next: u64, target: u6
         AsmLine::Branch { insn, .. } => put_branch(code, *insn, next, target)?,
         AsmLine::Call { .. } => {
             put(code, &Insn::Auipc { rd: 1, imm: 0 })?;
-            put(code, &Insn::Jalr { rd: 1, rs1: 1, imm: 0 })?;
+            put(
+                code,
+                &Insn::Jalr {
+                    rd: 1,
+                    rs1: 1,
+                    imm: 0,
+                },
+            )?;
         }
         AsmLine::Address { rd, .. } => {
             put(code, &Insn::Auipc { rd: *rd, imm: 0 })?;
-            put(code, &Insn::Addi { rd: *rd, rs1: *rd, imm: 0 })?;
+            put(
+                code,
+                &Insn::Addi {
+                    rd: *rd,
+                    rs1: *rd,
+                    imm: 0,
+                },
+            )?;
         }
     }
     Ok(())

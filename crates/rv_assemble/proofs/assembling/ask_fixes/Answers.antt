@@ -17,7 +17,7 @@ loop-fix-preserved c =
     let g = slice_get_read fixes (length fixes) k fix refl (omega arith) c.fix-item.is in
     let name : c.in_ok-name.name ≡ fix.name = c.in_ok-name.ensures.cases in
     let new : c.push.new.self.items ≡ c.loop-fix.asked.items ++ asked_by_fix code_len fix ∷ [] =
-        c.in_ok-push.ensures.items ∙ ap (λ (n : List ℕ). c.loop-fix.asked.items ++ record { at = code_len + fix.at; name = n; offset = fix.offset; kind = Word } ∷ []) name in
+    c.in_ok-push.ensures.items ∙ ap (λ (n : List ℕ). c.loop-fix.asked.items ++ record { at = code_len + fix.at; name = n; offset = fix.offset; kind = Word } ∷ []) name in
     new
     ∙ ap (λ (rs : List Relocation). rs ++ asked_by_fix code_len fix ∷ []) c.loop-fix.invariant
     ∙ append_assoc start (asked_by_fixes code_len (take k fixes)) (asked_by_fix code_len fix ∷ [])

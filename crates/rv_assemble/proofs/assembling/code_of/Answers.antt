@@ -21,7 +21,7 @@ put_line-requires-clause-fits c =
     let g = slice_get_read lines (length lines) k here refl (omega arith) c.index-lines-k.is in
     let len : vec_len c.loop-k.code ≡ length c.loop-k.code.items = omega arith in
     subst (λ (m : ℕ). FitsLine here m (slice_index places (k + 1)) (slice_index places (slice_index c.args.targets.now k))) (sym (len ∙ c.loop-k.invariant.ends))
-      (c.requires.fitting.fits k here g)
+    (c.requires.fitting.fits k here g)
 
 pub loop-k-preserved : goal.loop-k-preserved
 loop-k-preserved c =
@@ -34,6 +34,6 @@ loop-k-preserved c =
     let len : vec_len c.loop-k.code ≡ length c.loop-k.code.items = omega arith in
     let ends : length c.put_line.new.code.items ≡ slice_index places (k + 1) = omega (arith, c.in_ok-put_line.ensures.len) in
     code-more lines targets places k c.loop-k.code.items c.put_line.new.code.items here c.loop-k.invariant g
-      c.in_ok-put_line.ensures.keeps ends
-      (subst (λ (m : ℕ). LineTo c.put_line.new.code.items m (slice_index places (k + 1)) (slice_index places (slice_index targets k)) here) (len ∙ c.loop-k.invariant.ends)
-        c.in_ok-put_line.ensures.line)
+    c.in_ok-put_line.ensures.keeps ends
+    (subst (λ (m : ℕ). LineTo c.put_line.new.code.items m (slice_index places (k + 1)) (slice_index places (slice_index targets k)) here) (len ∙ c.loop-k.invariant.ends)
+    c.in_ok-put_line.ensures.line)

@@ -11,8 +11,8 @@ use Rattle.rv_assemble.proofs.assembling.object_of.Goals as goal
 pub code_of-requires-clause-fitting : goal.code_of-requires-clause-fitting
 code_of-requires-clause-fitting c =
     fitting-read c.as_slice-lines.result.now c.in_ok-targets.targets.items c.deref.result.now c.deref-3.result.now c.in_ok-wide.wide.items c.deref-2.result.now
-      c.in_ok-places.places.items c.deref-4.result.now c.deref.ensures.value c.deref-3.ensures.value c.deref-2.ensures.value c.deref-4.ensures.value
-      c.in_ok-targets.ensures c.in_ok-wide.ensures c.in_ok-places.ensures
+    c.in_ok-places.places.items c.deref-4.result.now c.deref.ensures.value c.deref-3.ensures.value c.deref-2.ensures.value c.deref-4.ensures.value
+    c.in_ok-targets.ensures c.in_ok-wide.ensures c.in_ok-places.ensures
 
 pub returns-clause-assembled : goal.returns-clause-assembled
 returns-clause-assembled c =
@@ -20,10 +20,10 @@ returns-clause-assembled c =
     let fixes = c.args.u.now.fixes in
     let places = c.in_ok-places.places.items in
     let at = lines-read c.as_slice-lines.result.now lines c.in_ok-targets.targets.items c.deref-3.result.now places c.deref-4.result.now c.from_vec.result c.in_ok-code.code.items
-        c.as_slice-lines.ensures c.deref-3.ensures.value c.deref-4.ensures.value c.from_vec.ensures c.in_ok-targets.ensures c.in_ok-code.ensures in
+    c.as_slice-lines.ensures c.deref-3.ensures.value c.deref-4.ensures.value c.from_vec.ensures c.in_ok-targets.ensures c.in_ok-code.ensures in
     let hp = c.in_ok-places.ensures in
     let code_len : c.len-code_len.result ≡ length c.from_vec.result =
-        c.len-code_len.ensures ∙ len ∙ ap (λ (b : List ℕ). length b) (sym c.from_vec.ensures) in
+    c.len-code_len.ensures ∙ len ∙ ap (λ (b : List ℕ). length b) (sym c.from_vec.ensures) in
     record {
       places = places;
       count = hp.count ∙ ap (λ (ls : List AsmLine). length ls + 1) c.as_slice-lines.ensures;

@@ -31,4 +31,4 @@ returns c =
     let inv = c.loop-line.invariant in
     let n : c.loop-line.line-index ≡ length lines = omega arith in
     targets-all lines (λ q. get nat_eq c.in_ok-found.found q) c.in_ok-found.ensures c.loop-line.targets.items c.requires (inv.count ∙ n)
-      (λ k line l g. inv.each k line (omega arith) g)
+    (λ k line l g. inv.each k line (omega arith) g)

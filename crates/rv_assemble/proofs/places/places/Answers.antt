@@ -16,10 +16,10 @@ loop-k-preserved c =
     let size = c.size-end.result in
     let g = slice_get_read lines (length lines) n here refl (omega arith) c.index-lines-k.is in
     let e : size ≡ size_of_line here (gap (slice_index wide n) (slice_index wide (slice_index targets n))) =
-        c.size-end.ensures ∙ ap (λ (m : ℕ). size_of_line here m) (c.abs_diff.ensures ∙ omega arith) in
+    c.size-end.ensures ∙ ap (λ (m : ℕ). size_of_line here m) (c.abs_diff.ensures ∙ omega arith) in
     let items : c.push-in-loop-k.new.self.items ≡ c.loop-k.places.items ++ (old + size) ∷ [] = c.in_ok-push-2.ensures.items in
     subst (λ (ys : List ℕ). PlacesTo lines targets wide ys (n + 1) (old + size)) (sym items)
-      (places-more lines targets wide c.loop-k.places.items n old here size c.loop-k.invariant g e (c.requires.wide.steps n here g))
+    (places-more lines targets wide c.loop-k.places.items n old here size c.loop-k.invariant g e (c.requires.wide.steps n here g))
 
 pub returns : goal.returns
 returns c = places-all c.args.lines.now c.args.targets.now c.args.wide.now c.loop-k.places.items c.loop-k.k c.loop-k.end (omega arith) c.loop-k.invariant

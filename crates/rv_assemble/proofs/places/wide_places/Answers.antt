@@ -16,8 +16,8 @@ loop-line-preserved c =
     let l : old + widest_of here < 1999999990 = omega (arith, widest-le here) in
     let items : c.push-in-loop-line.new.self.items ≡ c.loop-line.wide.items ++ (old + widest_of here) ∷ [] = c.in_ok-push-2.ensures.items ∙ ap (λ (y : ℕ). c.loop-line.wide.items ++ y ∷ []) e in
     subst (λ (ys : List ℕ). WideTo lines ys (n + 1) (old + c.widest-end.result)) (sym items)
-      (subst (λ (y : ℕ). WideTo lines (c.loop-line.wide.items ++ (old + widest_of here) ∷ []) (n + 1) y) (sym e)
-        (wide-more lines c.loop-line.wide.items n old here c.loop-line.invariant g l))
+    (subst (λ (y : ℕ). WideTo lines (c.loop-line.wide.items ++ (old + widest_of here) ∷ []) (n + 1) y) (sym e)
+    (wide-more lines c.loop-line.wide.items n old here c.loop-line.invariant g l))
 
 pub returns : goal.returns
 returns c = wide-all c.args.lines.now c.loop-line.wide.items c.loop-line.line-index c.loop-line.end (omega arith) c.loop-line.invariant
