@@ -1,10 +1,10 @@
 -- Conditional branches with another immediate, and turned.
-use Rattle.std.proofs.Common.{◌≡◌, ℕ, ◌+◌, ◌-◌, ◌*◌, ◌%◌, ◌^◌, ◌<◌, ◌≤◌, ◌⊎◌, inl, inr, arith}
+use Rattle.std.proofs.Common.{◌≡◌, ℕ, ◌-◌, ◌%◌, inl, inr, arith}
 use Rattle.rv_isa.specs.declared.insn.Insn.{Insn}
 use Rattle.rv_isa.specs.declared.insn.Insn.TheVariants.{Beq, Bne, Blt, Bge, Bltu, Bgeu}
 use Rattle.rv_isa.specs.Encode.{IsEncodable, IsSigned}
 use Rattle.rv_assemble.specs.Lines.{aimed, opposite, distance}
-use Rattle.rv_assemble.specs.Places.{IsConditional, FitsJump, FitsBranch}
+use Rattle.rv_assemble.specs.Places.{IsConditional, FitsBranch}
 
 pub aimed-encodable : (i : Insn) (far : ℕ) → IsConditional i → IsSigned 13 far → far % 2 ≡ 0 → IsEncodable (aimed i far)
 aimed-encodable (Beq rs1 rs2 imm) far h s e = (h.0, h.1, s, e)

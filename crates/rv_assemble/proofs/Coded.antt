@@ -1,15 +1,14 @@
 -- Code and requests that grow by a line.
-use Rattle.std.proofs.Common.{◌≡◌, ℕ, zero, suc, ◌+◌, ◌*◌, ◌<◌, ◌≤◌, ◌⊎◌, inl, inr, List, [], ◌∷◌, ◌++◌, length, take, refl, sym, ap, ◌∙◌, subst, arith}
-use Rattle.std.specs.Prelude.{slice_index, slice_get, Option, Some}
+use Rattle.std.proofs.Common.{◌≡◌, ℕ, zero, suc, ◌+◌, inl, inr, List, [], ◌∷◌, ◌++◌, length, take, sym, ap, ◌∙◌, subst, arith}
+use Rattle.std.specs.Prelude.{slice_index, slice_get, Some}
 use Rattle.std.proofs.lemmas.List.{append_assoc, append-nil}
 use Rattle.std.proofs.lemmas.Option.{slice_get_within}
-use Rattle.rv_isa.specs.declared.insn.Insn.{Insn}
 use Rattle.rv_isa.specs.declared.insn.Insn.TheVariants.{Auipc, Jalr, Addi}
 use Rattle.rv_assemble.specs.declared.unit.AsmLine.{AsmLine}
 use Rattle.rv_assemble.specs.declared.unit.AsmLine.TheVariants.{Label, Plain, Branch, Call, Address}
 use Rattle.rv_assemble.specs.declared.unit.NamedFix.{NamedFix}
 use Rattle.rv_assemble.specs.declared.object.Relocation.{Relocation}
-use Rattle.rv_assemble.specs.Lines.{IsProperLine, AreProperLines, LineAt, asked_by, asked_by_lines, asked_by_fix, asked_by_fixes}
+use Rattle.rv_assemble.specs.Lines.{IsProperLine, LineAt, asked_by, asked_by_lines, asked_by_fix, asked_by_fixes}
 use Rattle.rv_assemble.specs.Places.{Keeps, LineTo, IsProperFor, IsCodeTo, AreTargets}
 use Rattle.rv_assemble.proofs.Kept.{Stands-kept, Reaches-kept}
 use Rattle.rv_assemble.proofs.Pushed.{last_or_before, same_line}

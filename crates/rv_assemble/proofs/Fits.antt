@@ -1,16 +1,14 @@
 -- The lines as they are placed suffice: what lies between a branch and its label takes no more than in the widest layout.
-use Rattle.std.proofs.Common.{◌≡◌, ℕ, zero, suc, ◌+◌, ◌-◌, ◌*◌, ◌%◌, ◌^◌, ◌<◌, ◌≤◌, ◌⊎◌, inl, inr, List, [], ◌∷◌, ◌++◌, length, refl, sym, ap, ◌∙◌, subst, arith}
-use Rattle.std.specs.Prelude.{slice_index, slice_get, Option, Some, nat_lt, if◌then◌else◌, Bool, true, false}
+use Rattle.std.proofs.Common.{◌≡◌, ℕ, zero, suc, ◌+◌, ◌-◌, ◌%◌, ◌<◌, ◌≤◌, ◌⊎◌, inl, inr, List, length, refl, sym, ap, ◌∙◌, subst, arith}
+use Rattle.std.specs.Prelude.{slice_index, nat_lt, if◌then◌else◌, Bool, true, false}
 use Rattle.std.proofs.Math.ListN.{get_or}
-use Rattle.std.proofs.lemmas.Bool.{ltb-true, ltb-false}
+use Rattle.std.proofs.lemmas.Bool.{ltb-true}
 use Rattle.std.proofs.lemmas.Option.{slice_get_within, slice_get-get_or}
 use Rattle.rv_isa.specs.declared.insn.Insn.{Insn}
 use Rattle.rv_isa.specs.declared.insn.Insn.TheVariants.{Jal}
-use Rattle.rv_isa.specs.Encode.{IsSigned}
 use Rattle.rv_assemble.specs.declared.unit.AsmLine.{AsmLine}
 use Rattle.rv_assemble.specs.declared.unit.AsmLine.TheVariants.{Label, Plain, Branch, Call, Address}
-use Rattle.rv_assemble.specs.Lines.{distance}
-use Rattle.rv_assemble.specs.Places.{IsInReach, FitsJump, FitsBranch, FitsInsn, FitsLine, widest_of, jump_size, branch_size, size_of_line, gap, AreWide, AreTargets, ArePlaces, AreFitting}
+use Rattle.rv_assemble.specs.Places.{FitsJump, FitsBranch, FitsInsn, FitsLine, jump_size, branch_size, size_of_line, gap, AreWide, AreTargets, ArePlaces, AreFitting}
 use Rattle.rv_assemble.proofs.Pushed.{size-le-widest}
 
 -- p may be 4 bytes further than the line's place

@@ -7,8 +7,8 @@ use Rattle.std.proofs.lemmas.Option.{slice_get_within, slice_get-get_or}
 use Rattle.std.proofs.Math.ListN.{get_or}
 use Rattle.rv_isa.specs.declared.insn.Insn.{Insn}
 use Rattle.rv_assemble.specs.declared.unit.AsmLine.{AsmLine}
-use Rattle.rv_assemble.specs.declared.unit.AsmLine.TheVariants.{Label, Plain, Branch, Call, Address}
-use Rattle.rv_assemble.specs.Lines.{HasLabel, IsProperLine, AreProperLines}
+use Rattle.rv_assemble.specs.declared.unit.AsmLine.TheVariants.{Label, Branch}
+use Rattle.rv_assemble.specs.Lines.{HasLabel, AreProperLines}
 use Rattle.rv_assemble.specs.Places.{AreLabelLines, AreTargets, target_by, with_label}
 use Rattle.rv_assemble.proofs.Pushed.{index-old, index-new, last_or_before, same_line}
 

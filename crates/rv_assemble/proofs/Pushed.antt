@@ -1,6 +1,6 @@
 -- A list of places that grows at its end.
 use Rattle.std.proofs.Common.{◌≡◌, ℕ, zero, suc, ◌+◌, ◌<◌, ◌≤◌, ◌⊎◌, inl, inr, List, [], ◌∷◌, ◌++◌, length, refl, sym, ap, ◌∙◌, subst, arith, lit<}
-use Rattle.std.specs.Prelude.{slice_index, slice_get, Option, Some, nat_lt, if◌then◌else◌, Bool, true, false}
+use Rattle.std.specs.Prelude.{slice_index, slice_get, Some, nat_lt, if◌then◌else◌, Bool, true, false}
 use Rattle.std.proofs.lemmas.List.{length-append}
 use Rattle.std.proofs.lemmas.Option.{slice_get_within}
 use Rattle.std.proofs.lemmas.Grind.{common_steps}

@@ -1,11 +1,11 @@
 -- What the assembler's own functions keep.
-use Rattle.std.specs.Prelude.{ℕ, ◌≡◌, ◌<◌, ◌≤◌, ◌+◌, ◌-◌, ◌*◌, ◌%◌, ◌^◌, ◌⊎◌, nat_lt, ◌==◌, unwrap_or, if◌then◌else◌, List, [], ◌∷◌, ◌++◌, length, slice_index, slice_get, Option, Some, None}
+use Rattle.std.specs.Prelude.{ℕ, ◌≡◌, ◌<◌, ◌≤◌, ◌+◌, ◌-◌, ◌%◌, ◌^◌, ◌⊎◌, nat_lt, ◌==◌, unwrap_or, if◌then◌else◌, List, length, slice_index, slice_get, Option, Some}
 use Rattle.rv_isa.specs.declared.insn.Insn.{Insn}
-use Rattle.rv_isa.specs.declared.insn.Insn.TheVariants.{Auipc, Jal, Jalr, Beq, Bne, Blt, Bge, Bltu, Bgeu, Addi}
+use Rattle.rv_isa.specs.declared.insn.Insn.TheVariants.{Auipc, Jal, Jalr, Addi}
 use Rattle.rv_isa.specs.Encode.{IsEncodable, IsSigned}
 use Rattle.rv_assemble.specs.declared.unit.AsmLine.{AsmLine}
 use Rattle.rv_assemble.specs.declared.unit.AsmLine.TheVariants.{Label, Plain, Branch, Call, Address}
-use Rattle.rv_assemble.specs.Lines.{distance, Stands, MakesDistance, Jumps, Branches, Reaches, IsBranch}
+use Rattle.rv_assemble.specs.Lines.{distance, Stands, Reaches, IsBranch}
 
 -- the old bytes stand at the start of the new ones
 pub record Keeps (old new : List ℕ) : Type 0 where

@@ -92,8 +92,8 @@ fn a_branch_over_5000_bytes_goes_over_a_jump(rt: HostRuntime) -> Result<(), Fail
     assert_eq!(rt; code.len(), 5008);
     // bne x5, x6, 8 and jal x0, -5004
     assert_eq!(rt;
-        code[5000..],
-        [0x63, 0x94, 0x62, 0x00, 0x6f, 0xe0, 0x5f, 0xc7]
+        &code[5000..],
+        [0x63, 0x94, 0x62, 0x00, 0x6f, 0xe0, 0x5f, 0xc7].as_slice()
     );
     Ok(())
 }
@@ -115,6 +115,7 @@ fn a_near_branch_is_one_word_and_a_call_asks(rt: HostRuntime) -> Result<(), Fail
             0x13, 0x00, 0x00, 0x00, 0xe3, 0x8e, 0x62, 0xfe, 0x97, 0x00, 0x00, 0x00, 0xe7, 0x80,
             0x00, 0x00,
         ]
+        .as_slice()
     );
     let asked = o.relocations.as_slice();
     assert_eq!(rt; asked.len(), 1);

@@ -1,5 +1,5 @@
-use Rattle.std.proofs.Common.{◌≡◌, ℕ, ◌+◌, ◌<◌, List, length, refl, sym, ap, ◌∙◌, subst, arith}
-use Rattle.std.specs.Prelude.{slice_get, slice_index, Some, vec_len}
+use Rattle.std.proofs.Common.{◌≡◌, ℕ, ◌+◌, length, refl, sym, ◌∙◌, subst, arith}
+use Rattle.std.specs.Prelude.{slice_index, vec_len}
 use Rattle.std.proofs.lemmas.Option.{slice_get_read}
 use Rattle.rv_assemble.specs.Places.{FitsLine, LineTo}
 use Rattle.rv_assemble.proofs.Coded.{proper-for, code-more}

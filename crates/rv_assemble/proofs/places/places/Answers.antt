@@ -1,8 +1,8 @@
-use Rattle.std.proofs.Common.{◌≡◌, ℕ, ◌+◌, ◌<◌, List, [], ◌∷◌, ◌++◌, length, refl, sym, ap, ◌∙◌, subst, arith}
-use Rattle.std.specs.Prelude.{slice_get, slice_index, Some}
+use Rattle.std.proofs.Common.{◌≡◌, ℕ, ◌+◌, List, [], ◌∷◌, ◌++◌, length, refl, sym, ap, ◌∙◌, subst, arith}
+use Rattle.std.specs.Prelude.{slice_index}
 use Rattle.std.proofs.lemmas.Option.{slice_get_read}
-use Rattle.rv_assemble.specs.Places.{widest_of, size_of_line, gap}
-use Rattle.rv_assemble.proofs.Pushed.{PlacesTo, places-none, places-more, places-all}
+use Rattle.rv_assemble.specs.Places.{size_of_line, gap}
+use Rattle.rv_assemble.proofs.Pushed.{PlacesTo, places-more, places-all}
 use Rattle.rv_assemble.proofs.places.places.Goals as goal
 
 pub loop-k-preserved : goal.loop-k-preserved

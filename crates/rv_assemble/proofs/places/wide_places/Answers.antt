@@ -1,8 +1,7 @@
 use Rattle.std.proofs.Common.{◌≡◌, ℕ, ◌+◌, ◌<◌, List, [], ◌∷◌, ◌++◌, length, refl, sym, ap, ◌∙◌, subst, arith}
-use Rattle.std.specs.Prelude.{slice_get, Some}
 use Rattle.std.proofs.lemmas.Option.{slice_get_read}
 use Rattle.rv_assemble.specs.Places.{widest_of}
-use Rattle.rv_assemble.proofs.Pushed.{WideTo, wide-none, wide-more, wide-all, widest-le}
+use Rattle.rv_assemble.proofs.Pushed.{WideTo, wide-more, wide-all, widest-le}
 use Rattle.rv_assemble.proofs.places.wide_places.Goals as goal
 
 pub loop-line-preserved : goal.loop-line-preserved

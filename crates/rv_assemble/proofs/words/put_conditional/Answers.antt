@@ -1,7 +1,7 @@
-use Rattle.std.proofs.Common.{◌≡◌, ℕ, ◌-◌, subst, sym, ◌∙◌, ap}
+use Rattle.std.proofs.Common.{ℕ, ◌-◌, subst, sym, ◌∙◌, ap}
 use Rattle.rv_isa.specs.declared.insn.Insn.{Insn}
 use Rattle.rv_isa.specs.Encode.{IsEncodable}
-use Rattle.rv_assemble.specs.Lines.{distance, aimed, opposite}
+use Rattle.rv_assemble.specs.Lines.{distance, aimed}
 use Rattle.rv_assemble.specs.Places.{FitsBranch}
 use Rattle.rv_assemble.proofs.Aimed.{aimed-encodable, opposite-encodable, fits-near, fits-over}
 use Rattle.rv_assemble.proofs.words.put_conditional.Goals as goal
