@@ -1,2 +1,4 @@
 pub mod Layout
 pub mod Patched
+pub mod Names
+pub mod Table

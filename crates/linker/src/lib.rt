@@ -3,6 +3,7 @@
 
 mod fault;
 mod laid;
+mod names;
 mod patch;
 
 pub use fault::LinkFault;
