@@ -1,16 +1,23 @@
 -- A table of names with one more definition.
-use Rattle.std.proofs.Common.{◌≡◌, ℕ, zero, suc, ◌+◌, ◌<◌, ◌≤◌, ◌⊎◌, inl, inr, List, [], ◌∷◌, ◌++◌, length, refl, sym, ap, ◌∙◌, subst, arith}
+use Rattle.std.proofs.Common.{◌≡◌, ℕ, zero, suc, ◌+◌, ◌<◌, ◌≤◌, ◌⊎◌, inl, inr, List, [], ◌∷◌, ◌++◌, length, take, refl, sym, ap, ◌∙◌, subst, arith}
 use Rattle.std.specs.Prelude.{bytes_eq, slice_get, Option, Some, None, if◌then◌else◌, Bool, true, false}
 use Rattle.std.proofs.lemmas.Slice.Eq.{bytes_eq-Decides}
+use Rattle.std.proofs.lemmas.List.{append_assoc, append-nil}
+use Rattle.rv_assemble.specs.declared.object.ObjUnit.{ObjUnit}
+use Rattle.rv_assemble.specs.declared.object.Relocation.{Relocation}
 use Rattle.linker.specs.declared.names.Definition.{Definition}
-use Rattle.linker.specs.Names.{Entry, definition_at, count_of, Holds}
-use Rattle.linker.specs.Table.{IsTable}
+use Rattle.linker.specs.Names.{Entry, definition_at, count_of, unit_entries, entries_from, asked_names, asked_of_units, Holds}
+use Rattle.linker.specs.Table.{IsTable, AreMissed}
 
 bytes_eq-true : (a b : List ℕ) → bytes_eq a b ≡ true → a ≡ b
 bytes_eq-true a b h = (bytes_eq-Decides a b).0 h
 
 bytes_eq-same : (a : List ℕ) → bytes_eq a a ≡ true
 bytes_eq-same a = (bytes_eq-Decides a a).1 refl
+
+-- where the k-th unit defines a name
+abbrev pub definition : ℕ → ℕ → Definition
+definition k place = record { unit = k; place = place }
 
 -- with one more entry
 count-more : (name : List ℕ) (es : List Entry) (e : Entry) → count_of name (es ++ e ∷ []) ≡ count_of name es + (if bytes_eq name e.0 then 1 else 0)
@@ -109,4 +116,71 @@ module _ (entries table : List Entry) (twice : List (List ℕ)) (name : List ℕ
         ∙ sym (definition-more n entries (name, d));
     sound = λ n s. let more = count-more n entries (name, d) in let two = h.sound n s in omega (arith, more, two);
     full = λ n c. full_new n (bytes_eq n name) f refl (let more = count-more n entries (name, d) in omega (arith, more, c));
+  }
+
+pub unit-more : (k i : ℕ) (names : List (List ℕ × ℕ)) (n : List ℕ × ℕ) → slice_get names i ≡ Some n
+    → unit_entries k (take (i + 1) names) ≡ unit_entries k (take i names) ++ (n.0, definition k n.1) ∷ []
+unit-more k i [] n g = cc
+unit-more k zero (m ∷ names) n g = let e : m ≡ n = cc in ap (λ (x : List ℕ × ℕ). let r : List Entry = (x.0, definition k x.1) ∷ [] in r) e
+unit-more k (suc i) (m ∷ names) n g =
+    let e : suc i + 1 ≡ suc (i + 1) = omega arith in
+    ap (λ (j : ℕ). unit_entries k (take j (m ∷ names))) e ∙ ap (λ (r : List Entry). (m.0, definition k m.1) ∷ r) (unit-more k i names n g)
+
+pub from-more : (j k : ℕ) (units : List ObjUnit) (u : ObjUnit) → slice_get units k ≡ Some u
+    → entries_from j (take (k + 1) units) ≡ entries_from j (take k units) ++ unit_entries (j + k) u.names
+from-more j k [] u g = cc
+from-more j zero (v ∷ units) u g =
+    let e : j + 0 ≡ j = omega arith in
+    let same : v ≡ u = cc in
+    append-nil (unit_entries j v.names) ∙ ap (λ (w : ObjUnit). unit_entries j w.names) same ∙ ap (λ (m : ℕ). unit_entries m u.names) (sym e)
+from-more j (suc k) (v ∷ units) u g =
+    let e : suc k + 1 ≡ suc (k + 1) = omega arith in
+    let f : j + 1 + k ≡ j + suc k = omega arith in
+    ap (λ (m : ℕ). entries_from j (take m (v ∷ units))) e
+    ∙ ap (λ (r : List Entry). unit_entries j v.names ++ r) (from-more (j + 1) k units u g)
+    ∙ sym (append_assoc (unit_entries j v.names) (entries_from (j + 1) (take k units)) (unit_entries (j + 1 + k) u.names))
+    ∙ ap (λ (m : ℕ). (unit_entries j v.names ++ entries_from (j + 1) (take k units)) ++ unit_entries m u.names) f
+
+pub names-more : (i : ℕ) (relocations : List Relocation) (r : Relocation) → slice_get relocations i ≡ Some r
+    → asked_names (take (i + 1) relocations) ≡ asked_names (take i relocations) ++ r.name ∷ []
+names-more i [] r g = cc
+names-more zero (q ∷ rs) r g = let e : q ≡ r = cc in ap (λ (x : Relocation). let t : List (List ℕ) = x.name ∷ [] in t) e
+names-more (suc i) (q ∷ rs) r g =
+    let e : suc i + 1 ≡ suc (i + 1) = omega arith in
+    ap (λ (j : ℕ). asked_names (take j (q ∷ rs))) e ∙ ap (λ (t : List (List ℕ)). q.name ∷ t) (names-more i rs r g)
+
+pub asked-more : (k : ℕ) (units : List ObjUnit) (u : ObjUnit) → slice_get units k ≡ Some u
+    → asked_of_units (take (k + 1) units) ≡ asked_of_units (take k units) ++ asked_names u.relocations
+asked-more k [] u g = cc
+asked-more zero (v ∷ units) u g =
+    let same : v ≡ u = cc in
+    append-nil (asked_names v.relocations) ∙ ap (λ (w : ObjUnit). asked_names w.relocations) same
+asked-more (suc k) (v ∷ units) u g =
+    let e : suc k + 1 ≡ suc (k + 1) = omega arith in
+    ap (λ (m : ℕ). asked_of_units (take m (v ∷ units))) e
+    ∙ ap (λ (r : List (List ℕ)). asked_names v.relocations ++ r) (asked-more k units u g)
+    ∙ sym (append_assoc (asked_names v.relocations) (asked_of_units (take k units)) (asked_names u.relocations))
+
+module _ (asked : List (List ℕ)) (table : List Entry) (missing : List (List ℕ)) (name : List ℕ) (h : AreMissed asked table missing) where
+  -- a name that is there
+  pub missed-same : (d : Definition) → definition_at name table ≡ Some d → AreMissed (asked ++ name ∷ []) table missing
+  missed-same d f = record {
+    sound = λ n m. let s = h.sound n m in ((s.0.0, get-old asked name s.0.0 n s.0.1), s.1);
+    full = λ n a none. elim (get-split asked name a.0 n a.1) [
+        inl old ↦ h.full n (a.0, old) none
+      | inr e ↦ (let here : definition_at name table ≡ None = subst (λ (m : List ℕ). definition_at m table ≡ None) (sym e) none in absurd (there_is d (sym f ∙ here))) ];
+  }
+    where
+      there_is : (d : Definition) → Some d ≡ None → ⊥
+      there_is d e = cc
+
+  -- a name that isn't
+  pub missed-more : definition_at name table ≡ None → AreMissed (asked ++ name ∷ []) table (missing ++ name ∷ [])
+  missed-more f = record {
+    sound = λ n m. elim (get-split missing name m.0 n m.1) [
+        inl old ↦ (let s = h.sound n (m.0, old) in ((s.0.0, get-old asked name s.0.0 n s.0.1), s.1))
+      | inr e ↦ ((length asked, subst (λ (x : List ℕ). slice_get (asked ++ name ∷ []) (length asked) ≡ Some x) e (get-last asked name)), subst (λ (x : List ℕ). definition_at x table ≡ None) e f) ];
+    full = λ n a none. elim (get-split asked name a.0 n a.1) [
+        inl old ↦ (let s = h.full n (a.0, old) none in (s.0, get-old missing name s.0 n s.1))
+      | inr e ↦ (length missing, subst (λ (x : List ℕ). slice_get (missing ++ name ∷ []) (length missing) ≡ Some x) e (get-last missing name)) ];
   }

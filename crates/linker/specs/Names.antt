@@ -42,9 +42,12 @@ abbrev pub asked_names : List Relocation → List (List ℕ)
 asked_names [] = []
 asked_names (r ∷ relocations) = r.name ∷ asked_names relocations
 
+abbrev pub asked_of_units : List ObjUnit → List (List ℕ)
+asked_of_units [] = []
+asked_of_units (u ∷ units) = asked_names u.relocations ++ asked_of_units units
+
 abbrev pub all_asked : List ObjUnit → List (List ℕ)
-all_asked [] = entry_name ∷ []
-all_asked (u ∷ units) = asked_names u.relocations ++ all_asked units
+all_asked units = asked_of_units units ++ entry_name ∷ []
 
 abbrev pub Holds : List (List ℕ) → List ℕ → Type 0
 Holds names name = (k : ℕ) × (slice_get names k ≡ Some name)

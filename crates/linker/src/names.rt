@@ -1,10 +1,11 @@
 //! A table of names with where they are defined, in the order in which they were seen.
-ghost use Rattle.std.specs.Prelude.{◌≡◌, ℕ, List, [], ◌∷◌, ◌++◌, None, OnOk, OnErr, string_bytes};
-ghost use Rattle.linker.specs.Names.{Entry, definition_at};
-ghost use Rattle.linker.specs.Table.{IsTable};
+ghost use Rattle.std.specs.Prelude.{◌≡◌, ℕ, List, [], ◌∷◌, ◌++◌, None, IfOk, OnOk, OnErr, string_bytes};
+ghost use Rattle.linker.specs.Names.{Entry, definition_at, unit_entries, entries_from, asked_names, all_asked};
+ghost use Rattle.linker.specs.Table.{IsTable, AreMissed};
 
 use indexmap::IndexMap;
 use jf_base::Text;
+use rv_assemble::{ObjUnit, Relocation};
 use std::alloc::{AllocError, Global};
 use std::marker::Model;
 
@@ -67,4 +68,59 @@ fn define(table: &mut Names, twice: &mut Vec<Text>, name: &Text, definition: Def
         None => table.insert(text.into_string(), definition)?,
     }
     Ok(())
+}
+
+/// Adds what the k-th unit defines.
+fn define_unit(table: &mut Names, twice: &mut Vec<Text>, unit: u64, names: &[(Text, u64)]) -> Result<(), AllocError>
+    ensures { OnOk result ((entries : List Entry) → IsTable entries table.old twice.old.items → IsTable (entries ++ unit_entries unit names.now) table.new twice.new.items) }
+{
+    for (name, place) in names {
+        define(table, twice, name, Definition { unit, place: *place })?;
+    }
+    Ok(())
+}
+
+/// The definitions of all units, and the names that have two.
+pub(crate) fn table_of(alloc: Global, units: &[ObjUnit]) -> Result<(Names, Vec<Text>), AllocError>
+    ensures { IfOk result (λ r. IsTable (entries_from 0 units.now) r.0 r.1.items) }
+{
+    let mut table = Names::new(alloc);
+    let mut twice = Vec::new(alloc);
+    for (k, u) in units.iter().enumerate() {
+        define_unit(&mut table, &mut twice, k as u64, u.names.as_slice())?;
+    }
+    Ok((table, twice))
+}
+
+/// Puts a name that isn't in the table behind `missing`.
+fn ask(table: &Names, missing: &mut Vec<Text>, name: &Text) -> Result<(), AllocError>
+    ensures { OnOk result ((asked : List (List ℕ)) → AreMissed asked table.now missing.old.items → AreMissed (asked ++ name.now ∷ []) table.now missing.new.items) }
+{
+    match table.find(name.as_str()) {
+        Some(_) => {}
+        None => missing.push(name.clone()?)?,
+    }
+    Ok(())
+}
+
+fn ask_unit(table: &Names, missing: &mut Vec<Text>, relocations: &[Relocation]) -> Result<(), AllocError>
+    ensures { OnOk result ((asked : List (List ℕ)) → AreMissed asked table.now missing.old.items → AreMissed (asked ++ asked_names relocations.now) table.now missing.new.items) }
+{
+    for r in relocations {
+        ask(table, missing, &r.name)?;
+    }
+    Ok(())
+}
+
+/// The names that are asked for and have no definition.
+pub(crate) fn missing_of(alloc: Global, table: &Names, units: &[ObjUnit]) -> Result<Vec<Text>, AllocError>
+    ensures { IfOk result (λ missing. AreMissed (all_asked units.now) table.now missing.items) }
+{
+    let mut missing = Vec::new(alloc);
+    for u in units {
+        ask_unit(table, &mut missing, u.relocations.as_slice())?;
+    }
+    let entry = Text::from_text(alloc, "main")?;
+    ask(table, &mut missing, &entry)?;
+    Ok(missing)
 }
