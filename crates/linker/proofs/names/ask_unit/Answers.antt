@@ -1,0 +1,17 @@
+use Rattle.std.proofs.Common.{◌≡◌, ℕ, ◌+◌, List, [], ◌∷◌, ◌++◌, length, take, refl, sym, ap, ◌∙◌, subst, arith}
+use Rattle.std.specs.Prelude.{Option, Some, None}
+use Rattle.std.proofs.lemmas.Option.{slice_get_read}
+use Rattle.std.proofs.lemmas.List.{append_assoc}
+use Rattle.linker.specs.Names.{Entry, definition_at, unit_entries, entries_from, asked_names, asked_of_units}
+use Rattle.linker.specs.Table.{IsTable, AreMissed}
+use Rattle.linker.proofs.Tabled.{table-again, table-new, unit-more, from-more, names-more, asked-more, missed-same, missed-more, definition}
+use Rattle.linker.proofs.names.ask_unit.Goals as goal
+
+pub loop-r-preserved : goal.loop-r-preserved
+loop-r-preserved c = λ asked h.
+    let rs = c.args.relocations.now in
+    let i = c.loop-r.r-index in
+    let r = c.r-item.result in
+    let g = slice_get_read rs (length rs) i r refl (omega arith) c.r-item.is in
+    let e = append_assoc asked (asked_names (take i rs)) (r.name ∷ []) ∙ ap (λ (t : List (List ℕ)). asked ++ t) (sym (names-more i rs r g)) in
+    subst (λ (t : List (List ℕ)). AreMissed t c.args.table.now c.ask.new.missing.items) e (c.in_ok-ask.ensures (asked ++ asked_names (take i rs)) (c.loop-r.invariant asked h))

@@ -1,0 +1,10 @@
+//! Units put together into the image of a program: each name at its one definition, each relocation resolved, all other bytes as assembled.
+#![tactic(auto)]
+
+mod fault;
+mod laid;
+mod names;
+mod patch;
+
+pub use fault::LinkFault;
+pub use program_image::Image;
