@@ -9,7 +9,7 @@ use Rattle.linker.specs.declared.names.Definition.{Definition}
 use Rattle.linker.specs.Names.{Entry, definition_at, count_of, unit_entries, entries_from, asked_names, asked_of_units, Holds}
 use Rattle.linker.specs.Table.{IsTable, AreMissed}
 
-bytes_eq-true : (a b : List ℕ) → bytes_eq a b ≡ true → a ≡ b
+pub bytes_eq-true : (a b : List ℕ) → bytes_eq a b ≡ true → a ≡ b
 bytes_eq-true a b h = (bytes_eq-Decides a b).0 h
 
 bytes_eq-same : (a : List ℕ) → bytes_eq a a ≡ true
@@ -24,7 +24,7 @@ count-more : (name : List ℕ) (es : List Entry) (e : Entry) → count_of name (
 count-more name [] e = omega arith
 count-more name (x ∷ es) e = let r = count-more name es e in omega (arith, r)
 
-abbrev or_else : {A : Type 0} → Option A → Option A → Option A
+abbrev pub or_else : {A : Type 0} → Option A → Option A → Option A
 or_else None b = b
 or_else (Some a) b = Some a
 
@@ -42,7 +42,7 @@ none_of true d x n h q = cc
 none_of false d x n h q = let r = h q in omega (arith, r)
 
 -- none is defined where the count is 0
-none-count : (name : List ℕ) (es : List Entry) → definition_at name es ≡ None → count_of name es ≡ 0
+pub none-count : (name : List ℕ) (es : List Entry) → definition_at name es ≡ None → count_of name es ≡ 0
 none-count name [] h = refl
 none-count name (x ∷ es) h = none_of (bytes_eq name x.0) x.1 (definition_at name es) (count_of name es) (λ q. none-count name es q) h
 
@@ -50,7 +50,7 @@ some_of : (b : Bool) (d e : Definition) (x : Option Definition) (n : ℕ) → (x
 some_of true d e x n h q = omega arith
 some_of false d e x n h q = let r = h q in omega (arith, r)
 
-some-count : (name : List ℕ) (es : List Entry) (d : Definition) → definition_at name es ≡ Some d → 1 ≤ count_of name es
+pub some-count : (name : List ℕ) (es : List Entry) (d : Definition) → definition_at name es ≡ Some d → 1 ≤ count_of name es
 some-count name [] d h = cc
 some-count name (x ∷ es) d h = some_of (bytes_eq name x.0) d x.1 (definition_at name es) (count_of name es) (λ q. some-count name es d q) h
 

@@ -1,5 +1,9 @@
 pub mod Layout
+pub mod Starts
 pub mod Patched
 pub mod Names
 pub mod Table
+pub mod First
 pub mod Linked
+pub mod Told
+pub mod Resolving

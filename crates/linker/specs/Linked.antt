@@ -72,3 +72,6 @@ pub record IsLinkable (units : List ObjUnit) (u : ObjUnit) : Type 0 where
   pub apart : (i j : ℕ) (q r : Relocation) → slice_get u.relocations i ≡ Some q → slice_get u.relocations j ≡ Some r → i ≢ j → (q.at + 8 ≤ r.at) ⊎ (r.at + 8 ≤ q.at)
   pub targets : (j k place : ℕ) (r : Relocation) (v : ObjUnit) → slice_get u.relocations j ≡ Some r → Defines units r.name k v place
       → place + r.offset ≤ length v.code + length v.image
+
+abbrev pub AreLinkable : List ObjUnit → Type 0
+AreLinkable units = (k : ℕ) (u : ObjUnit) → slice_get units k ≡ Some u → IsLinkable units u

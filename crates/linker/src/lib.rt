@@ -3,8 +3,12 @@
 
 mod fault;
 mod laid;
+mod linking;
 mod names;
+mod offsets;
 mod patch;
+mod resolve;
 
 pub use fault::LinkFault;
+pub use linking::link;
 pub use program_image::Image;
