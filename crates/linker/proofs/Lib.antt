@@ -5,3 +5,5 @@ pub mod Order
 pub mod Found
 pub mod Sites
 pub mod Done
+pub mod Firsts
+pub mod Placed

@@ -43,6 +43,7 @@ fn put_target(bytes: &mut [u8], at: u64, target: u64, kind: RelocationKind)
 /// Resolves a relocation of the k-th unit.
 fn resolve(bytes: &mut [u8], units: &[ObjUnit], starts: &[Start], table: &Names, k: usize, r: &Relocation)
     requires ready { IsReady units.now starts.now table.now }
+    requires unit { k < length units.now }
     requires can { CanResolve units.now table.now k r.now }
     requires len { length bytes.old ≡ length (laid units.now) }
     ensures { (u : ObjUnit) → slice_get units.now k ≡ Some u → IsPatched units.now bytes.old bytes.new k u r.now }
