@@ -7,3 +7,4 @@ pub mod Sites
 pub mod Done
 pub mod Firsts
 pub mod Placed
+pub mod Outcome

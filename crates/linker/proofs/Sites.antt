@@ -35,8 +35,8 @@ length-laid units =
     let d = codes-fit units in
     joined (length (laid units)) (length (codes units ++ zeros (code_size units - length (codes units)))) (length (images units)) (length (codes units)) (length (zeros (code_size units - length (codes units)))) (code_size units) a b c d
   where
-    joined : (all front images code zeros size : ℕ) → all ≡ front + images → front ≡ code + zeros → zeros ≡ size - code → code ≤ size → all ≡ size + images
-    joined all front images code zeros size a b c d = omega arith
+    joined : (all front images code gap size : ℕ) → all ≡ front + images → front ≡ code + gap → gap ≡ size - code → code ≤ size → all ≡ size + images
+    joined all front images code gap size a b c d = omega arith
 
 pub code_next : (units : List ObjUnit) (k : ℕ) (u : ObjUnit) → slice_get units k ≡ Some u → code_before units (k + 1) ≡ code_before units k + length u.code
 code_next units k u g = ap (λ (b : List ℕ). length b) (codes-more k units u g) ∙ length-append (codes (take k units)) u.code

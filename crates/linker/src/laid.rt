@@ -1,5 +1,5 @@
 //! The bytes of all units, one behind the other.
-ghost use Rattle.std.specs.Prelude.{◌≡◌, ◌<◌, ◌+◌, ◌++◌, IfOk, OnOk, vec_len};
+ghost use Rattle.std.specs.Prelude.{◌≡◌, ◌<◌, ◌+◌, ◌++◌, IfOk, OnOk, length};
 ghost use Rattle.linker.specs.Layout.{codes, images, zeros, code_size, laid};
 
 use rv_assemble::ObjUnit;
@@ -39,7 +39,7 @@ fn put_zeros(bytes: &mut Vec<u8>, count: usize) -> Result<(), AllocError>
 pub(crate) fn bytes_of(alloc: Global, units: &[ObjUnit]) -> Result<(Vec<u8>, u64), AllocError>
     ensures bytes { IfOk result (λ r. r.0.items ≡ laid units.now) }
     ensures code { IfOk result (λ r. r.1 ≡ code_size units.now) }
-    ensures small { IfOk result (λ r. vec_len r.0 < 2000000000) }
+    ensures small { IfOk result (λ r. length r.0.items < 2000000000) }
 {
     let mut bytes = Vec::new(alloc);
     put_codes(&mut bytes, units)?;
