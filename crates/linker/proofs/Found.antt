@@ -72,7 +72,7 @@ units-found : (k : ℕ) (name : List ℕ) (units : List ObjUnit) (d : Definition
 units-found k name [] d h = cc
 units-found k name (u ∷ units) d h =
     units-found-by k name u units d (definition_at name (unit_entries k u.names)) refl
-      (sym (definition-append name (unit_entries k u.names) (entries_from (k + 1) units)) ∙ h) (λ e. units-found (k + 1) name units d e)
+    (sym (definition-append name (unit_entries k u.names) (entries_from (k + 1) units)) ∙ h) (λ e. units-found (k + 1) name units d e)
 
 pub table-defines : (units : List ObjUnit) (table : List Entry) (twice : List (List ℕ)) → IsTable (entries_from 0 units) table twice → TellsDefinitions units table
 table-defines units table twice t name d h =

@@ -8,3 +8,4 @@ pub mod Done
 pub mod Firsts
 pub mod Placed
 pub mod Outcome
+pub mod Trials

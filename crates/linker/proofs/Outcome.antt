@@ -20,15 +20,27 @@ module _ (units : List ObjUnit) (table : List Entry) (twice missing : List (List
   pub told : (fault : LinkFault) → Tells missing twice (Some fault) → IsFault units fault
   told Memory h = absurd h
   told (Missing name) h =
-      let is = missing-sound units table twice missing t m name h.0.0 in
-      (is, (inl is, λ other f. elim f [
-          inl a ↦ h.0.1 other (missing-full units table twice missing t m other a)
-        | inr a ↦ h.1 other (t.full other a) ]))
+      let is = missing-sound units table twice missing t m name h.0.0 in (
+        is,
+        (
+          inl is,
+          λ other f. elim f [
+            | inl a ↦ h.0.1 other (missing-full units table twice missing t m other a)
+            | inr a ↦ h.1 other (t.full other a)
+          ],
+        ),
+      )
   told (Twice name) h =
-      let is = t.sound name h.0.0 in
-      (is, (inr is, λ other f. elim f [
-          inl a ↦ h.1 other (missing-full units table twice missing t m other a)
-        | inr a ↦ h.0.1 other (t.full other a) ]))
+      let is = t.sound name h.0.0 in (
+        is,
+        (
+          inr is,
+          λ other f. elim f [
+            | inl a ↦ h.1 other (missing-full units table twice missing t m other a)
+            | inr a ↦ h.0.1 other (t.full other a)
+          ],
+        ),
+      )
 
   pub none-told : Tells missing twice None → (name : List ℕ) → IsFaulty units name → ⊥
   none-told h name (inl a) = holds_nothing missing name h.0 (missing-full units table twice missing t m name a)

@@ -132,7 +132,7 @@ lies_below units name more offset n s =
     let u = n.unit in
     let g = n.defines.0 in
     let below = place_below (code_before units k) (image_before units k) (length u.code) (code_size units) (offset_of units k u (n.place + more)) (n.place + more) (length u.image) (length (codes units)) (length (images units))
-        (part units k u (n.place + more)) (s k n.place u n.defines) (code_within units k u g) (codes-fit units) (image_within units k u g) in
+    (part units k u (n.place + more)) (s k n.place u n.defines) (code_within units k u g) (codes-fit units) (image_within units k u g) in
     let e = n.offset_is in
     let l = length-laid units in
     omega (arith, below, e, l)
@@ -144,11 +144,13 @@ pub record Site (units : List ObjUnit) (k : ℕ) (u : ObjUnit) (at : ℕ) : Type
 
 pub site : (units : List ObjUnit) (k : ℕ) (u : ObjUnit) (at : ℕ) (kind : RelocationKind) → IsInside u at kind → Site units k u at
 site units k u at Pair h = elim (part units k u at).is [
-    inl p ↦ record { is = inl (p.1, h) }
-  | inr p ↦ (let l = p.0 in absurd (omega (arith, l, h))) ]
+  | inl p ↦ record { is = inl (p.1, h) }
+  | inr p ↦ (let l = p.0 in absurd (omega (arith, l, h)))
+]
 site units k u at Word h = elim (part units k u at).is [
-    inl p ↦ (let l = p.0 in let m = h.0 in absurd (omega (arith, l, m)))
-  | inr p ↦ (let l = p.0 in let e = p.1 in record { is = inr (omega (arith, l, e), h.0, h.1) }) ]
+  | inl p ↦ (let l = p.0 in let m = h.0 in absurd (omega (arith, l, m)))
+  | inr p ↦ (let l = p.0 in let e = p.1 in record { is = inr (omega (arith, l, e), h.0, h.1) })
+]
 
 pub site_within : (units : List ObjUnit) (k : ℕ) (u : ObjUnit) (at : ℕ) → slice_get units k ≡ Some u → Site units k u at → offset_of units k u at + 8 ≤ length (laid units)
 site_within units k u at g s =
@@ -171,8 +173,8 @@ pub apart_later : (units : List ObjUnit) (k i : ℕ) (u v : ObjUnit) (at to : �
     → Site units k u at → Site units i v to → Apart (offset_of units k u at) (offset_of units i v to)
 apart_later units k i u v at to g h lt s t =
     by (offset_of units k u at) (offset_of units i v to) (code_before units k) (image_before units k) (length u.code) (length u.image)
-        (code_before units i) (image_before units i) (length v.code) (length v.image) (code_size units) (length (codes units))
-        (code_later units k i u g lt) (image_later units k i u g lt) (code_within units k u g) (code_within units i v h) (codes-fit units) s.is t.is
+    (code_before units i) (image_before units i) (length v.code) (length v.image) (code_size units) (length (codes units))
+    (code_later units k i u g lt) (image_later units k i u g lt) (code_within units k u g) (code_within units i v h) (codes-fit units) s.is t.is
   where
     by : (o p code image lc li code' image' lc' li' size codes : ℕ) → code + lc ≤ code' → image + li ≤ image' → code + lc ≤ codes → code' + lc' ≤ codes → codes ≤ size
         → ((o ≡ code + at) × (at + 8 ≤ lc)) ⊎ ((o + lc ≡ size + image + at) × (lc ≤ at) × (at + 8 ≤ lc + li))
@@ -186,7 +188,7 @@ pub apart_same : (units : List ObjUnit) (k : ℕ) (u : ObjUnit) (at to : ℕ) �
     → Site units k u at → Site units k u to → Apart (offset_of units k u at) (offset_of units k u to)
 apart_same units k u at to g apart s t =
     by (offset_of units k u at) (offset_of units k u to) (code_before units k) (image_before units k) (length u.code) (length u.image)
-        (code_size units) (length (codes units)) (code_within units k u g) (codes-fit units) apart s.is t.is
+    (code_size units) (length (codes units)) (code_within units k u g) (codes-fit units) apart s.is t.is
   where
     by : (o p code image lc li size codes : ℕ) → code + lc ≤ codes → codes ≤ size → Apart at to
         → ((o ≡ code + at) × (at + 8 ≤ lc)) ⊎ ((o + lc ≡ size + image + at) × (lc ≤ at) × (at + 8 ≤ lc + li))

@@ -92,12 +92,13 @@ module _ (entries table : List Entry) (twice : List (List ℕ)) (name : List ℕ
     sound = λ n s.
         let more = count-more n entries (name, d) in
         elim (get-split twice name s.0 n s.1) [
-            inl g ↦ (let two = h.sound n (s.0, g) in omega (arith, more, two))
+          | inl g ↦ (let two = h.sound n (s.0, g) in omega (arith, more, two))
           | inr e ↦ (
               let one = some-count n entries old (sym (h.first n) ∙ ap (λ (m : List ℕ). definition_at m table) (sym e) ∙ f) in
               let yes : bytes_eq n name ≡ true = subst (λ (m : List ℕ). bytes_eq m name ≡ true) e (bytes_eq-same name) in
               let two : count_of n (entries ++ (name, d) ∷ []) ≡ count_of n entries + 1 = more ∙ ap (λ (b : Bool). count_of n entries + (if b then 1 else 0)) yes in
-              omega (arith, one, two)) ];
+              omega (arith, one, two))
+        ];
     full = λ n c. full_again n (bytes_eq n name) refl (let more = count-more n entries (name, d) in omega (arith, more, c));
   }
 
@@ -167,8 +168,9 @@ module _ (asked : List (List ℕ)) (table : List Entry) (missing : List (List �
   missed-same d f = record {
     sound = λ n m. let s = h.sound n m in ((s.0.0, get-old asked name s.0.0 n s.0.1), s.1);
     full = λ n a none. elim (get-split asked name a.0 n a.1) [
-        inl old ↦ h.full n (a.0, old) none
-      | inr e ↦ (let here : definition_at name table ≡ None = subst (λ (m : List ℕ). definition_at m table ≡ None) (sym e) none in absurd (there_is d (sym f ∙ here))) ];
+      | inl old ↦ h.full n (a.0, old) none
+      | inr e ↦ (let here : definition_at name table ≡ None = subst (λ (m : List ℕ). definition_at m table ≡ None) (sym e) none in absurd (there_is d (sym f ∙ here)))
+    ];
   }
     where
       there_is : (d : Definition) → Some d ≡ None → ⊥
@@ -178,9 +180,11 @@ module _ (asked : List (List ℕ)) (table : List Entry) (missing : List (List �
   pub missed-more : definition_at name table ≡ None → AreMissed (asked ++ name ∷ []) table (missing ++ name ∷ [])
   missed-more f = record {
     sound = λ n m. elim (get-split missing name m.0 n m.1) [
-        inl old ↦ (let s = h.sound n (m.0, old) in ((s.0.0, get-old asked name s.0.0 n s.0.1), s.1))
-      | inr e ↦ ((length asked, subst (λ (x : List ℕ). slice_get (asked ++ name ∷ []) (length asked) ≡ Some x) e (get-last asked name)), subst (λ (x : List ℕ). definition_at x table ≡ None) e f) ];
+      | inl old ↦ (let s = h.sound n (m.0, old) in ((s.0.0, get-old asked name s.0.0 n s.0.1), s.1))
+      | inr e ↦ ((length asked, subst (λ (x : List ℕ). slice_get (asked ++ name ∷ []) (length asked) ≡ Some x) e (get-last asked name)), subst (λ (x : List ℕ). definition_at x table ≡ None) e f)
+    ];
     full = λ n a none. elim (get-split asked name a.0 n a.1) [
-        inl old ↦ (let s = h.full n (a.0, old) none in (s.0, get-old missing name s.0 n s.1))
-      | inr e ↦ (length missing, subst (λ (x : List ℕ). slice_get (missing ++ name ∷ []) (length missing) ≡ Some x) e (get-last missing name)) ];
+      | inl old ↦ (let s = h.full n (a.0, old) none in (s.0, get-old missing name s.0 n s.1))
+      | inr e ↦ (length missing, subst (λ (x : List ℕ). slice_get (missing ++ name ∷ []) (length missing) ≡ Some x) e (get-last missing name))
+    ];
   }

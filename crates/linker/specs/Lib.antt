@@ -7,3 +7,4 @@ pub mod First
 pub mod Linked
 pub mod Told
 pub mod Resolving
+pub mod Trial

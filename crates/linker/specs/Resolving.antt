@@ -54,5 +54,5 @@ pub record IsDone (units : List ObjUnit) (bytes : List ℕ) (unit relocation : �
       → IsBefore k j unit relocation → IsResolved units bytes k u r
   pub others : (i : ℕ)
       → ((k j : ℕ) (u : ObjUnit) (r : Relocation) → slice_get units k ≡ Some u → slice_get u.relocations j ≡ Some r
-          → IsBefore k j unit relocation → (i < offset_of units k u r.at) ⊎ (offset_of units k u r.at + 8 ≤ i))
+      → IsBefore k j unit relocation → (i < offset_of units k u r.at) ⊎ (offset_of units k u r.at + 8 ≤ i))
       → slice_index bytes i ≡ slice_index (laid units) i

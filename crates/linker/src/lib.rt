@@ -8,6 +8,8 @@ mod names;
 mod offsets;
 mod patch;
 mod resolve;
+#[cfg(test)]
+mod tests;
 
 pub use fault::LinkFault;
 pub use linking::link;

@@ -59,7 +59,12 @@ impl Names {
 }
 
 /// Adds a definition: the first of its name goes into the table, and a name that has one already goes behind `twice`.
-fn define(table: &mut Names, twice: &mut Vec<Text>, name: &Text, definition: Definition) -> Result<(), AllocError>
+fn define(
+    table: &mut Names,
+    twice: &mut Vec<Text>,
+    name: &Text,
+    definition: Definition,
+) -> Result<(), AllocError>
     ensures { OnOk result ((entries : List Entry) → IsTable entries table.old twice.old.items → IsTable (entries ++ (name.now, definition) ∷ []) table.new twice.new.items) }
 {
     let text = name.clone()?;
@@ -71,11 +76,24 @@ fn define(table: &mut Names, twice: &mut Vec<Text>, name: &Text, definition: Def
 }
 
 /// Adds what the k-th unit defines.
-fn define_unit(table: &mut Names, twice: &mut Vec<Text>, unit: u64, names: &[(Text, u64)]) -> Result<(), AllocError>
+fn define_unit(
+    table: &mut Names,
+    twice: &mut Vec<Text>,
+    unit: u64,
+    names: &[(Text, u64)],
+) -> Result<(), AllocError>
     ensures { OnOk result ((entries : List Entry) → IsTable entries table.old twice.old.items → IsTable (entries ++ unit_entries unit names.now) table.new twice.new.items) }
 {
     for (name, place) in names {
-        define(table, twice, name, Definition { unit, place: *place })?;
+        define(
+            table,
+            twice,
+            name,
+            Definition {
+                unit,
+                place: *place,
+            },
+        )?;
     }
     Ok(())
 }
@@ -103,7 +121,11 @@ fn ask(table: &Names, missing: &mut Vec<Text>, name: &Text) -> Result<(), AllocE
     Ok(())
 }
 
-fn ask_unit(table: &Names, missing: &mut Vec<Text>, relocations: &[Relocation]) -> Result<(), AllocError>
+fn ask_unit(
+    table: &Names,
+    missing: &mut Vec<Text>,
+    relocations: &[Relocation],
+) -> Result<(), AllocError>
     ensures { OnOk result ((asked : List (List ℕ)) → AreMissed asked table.now missing.old.items → AreMissed (asked ++ asked_names relocations.now) table.now missing.new.items) }
 {
     for r in relocations {
@@ -113,7 +135,11 @@ fn ask_unit(table: &Names, missing: &mut Vec<Text>, relocations: &[Relocation]) 
 }
 
 /// The names that are asked for and have no definition.
-pub(crate) fn missing_of(alloc: Global, table: &Names, units: &[ObjUnit]) -> Result<Vec<Text>, AllocError>
+pub(crate) fn missing_of(
+    alloc: Global,
+    table: &Names,
+    units: &[ObjUnit],
+) -> Result<Vec<Text>, AllocError>
     ensures { IfOk result (λ missing. AreMissed (all_asked units.now) table.now missing.items) }
 {
     let mut missing = Vec::new(alloc);

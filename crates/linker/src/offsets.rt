@@ -13,7 +13,11 @@ pub(crate) struct Start {
     pub(crate) image: u64,
 }
 
-pub(crate) fn starts_of(alloc: Global, units: &[ObjUnit], code_len: u64) -> Result<Vec<Start>, AllocError>
+pub(crate) fn starts_of(
+    alloc: Global,
+    units: &[ObjUnit],
+    code_len: u64,
+) -> Result<Vec<Start>, AllocError>
     requires code { code_len ≡ code_size units.now }
     requires small { length (laid units.now) < 2000000000 }
     ensures { IfOk result (λ starts. AreStarts units.now starts.items) }

@@ -15,7 +15,13 @@ use rv_assemble::{ObjUnit, Relocation, RelocationKind};
 const BASE: u64 = 65536;
 
 /// The offset of a name's definition with so many bytes more.
-pub(crate) fn target_of(units: &[ObjUnit], starts: &[Start], table: &Names, name: &str, more: u64) -> u64
+pub(crate) fn target_of(
+    units: &[ObjUnit],
+    starts: &[Start],
+    table: &Names,
+    name: &str,
+    more: u64,
+) -> u64
     requires ready { IsReady units.now starts.now table.now }
     requires defined { HasDefinition table.now name.now }
     requires within { StaysWithin units.now name.now more }
@@ -41,7 +47,14 @@ fn put_target(bytes: &mut [u8], at: u64, target: u64, kind: RelocationKind)
 }
 
 /// Resolves a relocation of the k-th unit.
-fn resolve(bytes: &mut [u8], units: &[ObjUnit], starts: &[Start], table: &Names, k: usize, r: &Relocation)
+fn resolve(
+    bytes: &mut [u8],
+    units: &[ObjUnit],
+    starts: &[Start],
+    table: &Names,
+    k: usize,
+    r: &Relocation,
+)
     requires ready { IsReady units.now starts.now table.now }
     requires unit { k < length units.now }
     requires can { CanResolve units.now table.now k r.now }

@@ -14,12 +14,15 @@ loop-i-preserved c =
     let gb = slice_get_read names (length names) c.loop-i.first b refl c.loop-i.invariant.0 c.index-names-first.is in
     let first = c.if-is_before.first in
     elim c.if-is_before.branch [
-        then-is_before w ↦ (
-          subst (λ (m : ℕ). m < length names) (sym w.first-is) (omega arith),
-          subst (λ (m : ℕ). FirstTo names (i + 1) m) (sym w.first-is) (first_then names i c.loop-i.first a b ga gb c.loop-i.invariant.1 (sym c.is_before.ensures ∙ w.if-is_before.true)))
+      | then-is_before w ↦ (
+        subst (λ (m : ℕ). m < length names) (sym w.first-is) (omega arith),
+        subst (λ (m : ℕ). FirstTo names (i + 1) m) (sym w.first-is) (first_then names i c.loop-i.first a b ga gb c.loop-i.invariant.1 (sym c.is_before.ensures ∙ w.if-is_before.true)),
+      )
       | else-is_before w ↦ (
-          subst (λ (m : ℕ). m < length names) (sym w.first-is) c.loop-i.invariant.0,
-          subst (λ (m : ℕ). FirstTo names (i + 1) m) (sym w.first-is) (first_else names i c.loop-i.first a b ga gb c.loop-i.invariant.1 (sym c.is_before.ensures ∙ w.if-is_before.false))) ]
+        subst (λ (m : ℕ). m < length names) (sym w.first-is) c.loop-i.invariant.0,
+        subst (λ (m : ℕ). FirstTo names (i + 1) m) (sym w.first-is) (first_else names i c.loop-i.first a b ga gb c.loop-i.invariant.1 (sym c.is_before.ensures ∙ w.if-is_before.false)),
+      )
+    ]
 
 pub returns : goal.returns
 returns c =
