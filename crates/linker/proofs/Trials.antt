@@ -1,6 +1,6 @@
 -- The units of the tests can be linked.
 use Rattle.std.proofs.Common.{◌≡◌, ℕ, zero, suc, ◌+◌, ◌≤◌, ◌⊎◌, inl, inr, List, [], ◌∷◌, length, refl, sym, ap, ◌∙◌, subst, arith}
-use Rattle.std.specs.Prelude.{slice_get, Option, Some}
+use Rattle.std.specs.Prelude.{slice_get, Option, Some, None}
 use Rattle.rv_assemble.specs.declared.object.ObjUnit.{ObjUnit}
 use Rattle.rv_assemble.specs.declared.object.Relocation.{Relocation}
 use Rattle.rv_assemble.specs.declared.object.RelocationKind.TheVariants.{Pair, Word}
@@ -20,9 +20,13 @@ one_of callee (suc zero) r g = inr (refl, same (record { at = 8; name = callee; 
     same a b e = cc
 one_of callee (suc (suc j)) r g = cc
 
+abbrev place_told : Option (List ℕ × ℕ) → ℕ
+place_told None = 0
+place_told (Some n) = n.1
+
 place_of : (name n : List ℕ) (j place : ℕ) → slice_get {X = List ℕ × ℕ} ((name, 0) ∷ []) j ≡ Some (n, place) → place ≡ 0
-place_of name n zero place g = cc
-place_of name n (suc j) place g = cc
+place_of name n zero place g = sym (ap place_told g)
+place_of name n (suc j) place g = sym (ap place_told g)
 
 place_is : (u : ObjUnit) → IsTrial u → (j place : ℕ) (name : List ℕ) → slice_get u.names j ≡ Some (name, place) → place ≡ 0
 place_is u t j place name g = place_of t.name name j place (subst (λ (ns : List (List ℕ × ℕ)). slice_get ns j ≡ Some (name, place)) t.names g)
