@@ -1,16 +1,15 @@
 -- One more relocation resolved.
 use Rattle.std.proofs.Common.{◌≡◌, ℕ, zero, suc, ◌+◌, ◌*◌, ◌%◌, ◌^◌, ◌<◌, ◌≤◌, ◌⊎◌, inl, inr, List, length, refl, sym, ap, ◌∙◌, subst, arith}
-use Rattle.std.specs.Prelude.{slice_get, slice_index, Option, Some}
+use Rattle.std.specs.Prelude.{slice_get, slice_index, Some}
 use Rattle.std.proofs.lemmas.Option.{slice_get_within}
 use Rattle.jf_base.specs.Numbers.{number_low_first}
 use Rattle.rv_assemble.specs.declared.object.ObjUnit.{ObjUnit}
 use Rattle.rv_assemble.specs.declared.object.Relocation.{Relocation}
 use Rattle.rv_assemble.specs.declared.object.RelocationKind.{RelocationKind}
 use Rattle.rv_assemble.specs.declared.object.RelocationKind.TheVariants.{Pair, Word}
-use Rattle.rv_assemble.specs.Lines.{distance}
 use Rattle.linker.specs.Layout.{laid, offset_of}
-use Rattle.linker.specs.Patched.{IsSameOutside, HasDistance}
-use Rattle.linker.specs.Linked.{HasTarget, IsResolved, AreLinkable, IsInside, IsUntouched}
+use Rattle.linker.specs.Patched.{IsSameOutside}
+use Rattle.linker.specs.Linked.{HasTarget, IsResolved, AreLinkable}
 use Rattle.linker.specs.Resolving.{IsPatched, IsDone, IsBefore}
 use Rattle.linker.proofs.Sites.{Site, site, Apart, apart_later, apart_same}
 

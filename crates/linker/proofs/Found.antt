@@ -1,12 +1,11 @@
 -- Names that are found.
-use Rattle.std.proofs.Common.{◌≡◌, ℕ, zero, suc, ◌+◌, ◌≤◌, List, [], ◌∷◌, ◌++◌, length, refl, sym, ap, ◌∙◌, subst, arith}
+use Rattle.std.proofs.Common.{◌≡◌, ℕ, zero, suc, ◌+◌, List, [], ◌∷◌, ◌++◌, length, refl, sym, ap, ◌∙◌, subst, arith}
 use Rattle.std.specs.Prelude.{bytes_eq, slice_get, Option, Some, None, if◌then◌else◌, Bool, true, false}
 use Rattle.rv_assemble.specs.declared.object.ObjUnit.{ObjUnit}
 use Rattle.rv_assemble.specs.declared.object.Relocation.{Relocation}
 use Rattle.linker.specs.declared.names.Definition.{Definition}
-use Rattle.linker.specs.Names.{Entry, definition_at, count_of, unit_entries, entries_from, asked_names, asked_of_units, all_asked, entry_name, Holds, IsMissing, IsTwice}
+use Rattle.linker.specs.Names.{Entry, definition_at, count_of, unit_entries, entries_from, asked_names, asked_of_units, all_asked, entry_name, Holds, IsMissing}
 use Rattle.linker.specs.Table.{IsTable, AreMissed}
-use Rattle.linker.specs.Linked.{Defines}
 use Rattle.linker.specs.Resolving.{TellsDefinitions, HasDefinition, AreAnswered}
 use Rattle.linker.proofs.Tabled.{none-count, some-count, or_else, bytes_eq-true, definition, get-last}
 

@@ -1,12 +1,12 @@
 -- Places of units by where the units begin.
-use Rattle.std.proofs.Common.{◌≡◌, ℕ, zero, suc, ◌+◌, ◌<◌, ◌≤◌, ◌⊎◌, inl, inr, List, [], ◌∷◌, ◌++◌, length, length-append, take, get_or, refl, sym, ap, ◌∙◌, subst, arith}
-use Rattle.std.specs.Prelude.{slice_get, Option, Some}
+use Rattle.std.proofs.Common.{◌≡◌, ℕ, zero, suc, ◌+◌, ◌<◌, ◌≤◌, ◌⊎◌, inl, inr, List, [], ◌∷◌, ◌++◌, length, take, get_or, refl, sym, ◌∙◌, subst, arith}
+use Rattle.std.specs.Prelude.{slice_get, Some}
 use Rattle.std.proofs.lemmas.Option.{slice_get-get_or}
 use Rattle.rv_assemble.specs.declared.object.ObjUnit.{ObjUnit}
 use Rattle.rv_assemble.specs.declared.object.RelocationKind.{RelocationKind}
 use Rattle.rv_assemble.specs.declared.object.RelocationKind.TheVariants.{Pair, Word}
 use Rattle.linker.specs.declared.offsets.Start.{Start}
-use Rattle.linker.specs.Layout.{codes, images, code_size, laid, offset_of}
+use Rattle.linker.specs.Layout.{codes, images, code_size, laid}
 use Rattle.linker.specs.Starts.{IsStart, AreStarts}
 use Rattle.linker.specs.Linked.{IsInside}
 use Rattle.linker.proofs.Sites.{code_within, codes-fit, image_within, length-laid}

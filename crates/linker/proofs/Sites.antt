@@ -1,17 +1,15 @@
 -- Where units lie in an image, and their relocations apart.
-use Rattle.std.proofs.Common.{◌≡◌, ℕ, zero, suc, ◌+◌, ◌-◌, ◌*◌, ◌/◌, ◌<◌, ◌≤◌, ◌⊎◌, inl, inr, List, [], ◌∷◌, ◌++◌, length, length-append, take, refl, sym, ap, ◌∙◌, subst, arith}
-use Rattle.std.specs.Prelude.{slice_get, Option, Some, Bool, true, false, nat_lt, if◌then◌else◌}
-use Rattle.std.proofs.lemmas.Bool.{ltb-true, lt-ltb}
-use Rattle.std.proofs.lemmas.Option.{slice_get_within}
+use Rattle.std.proofs.Common.{◌≡◌, ℕ, zero, suc, ◌+◌, ◌-◌, ◌<◌, ◌≤◌, ◌⊎◌, inl, inr, List, [], ◌∷◌, ◌++◌, length, length-append, take, refl, ap, ◌∙◌, arith}
+use Rattle.std.specs.Prelude.{slice_get, Some, Bool, true, false, nat_lt, if◌then◌else◌}
+use Rattle.std.proofs.lemmas.Bool.{ltb-true}
 use Rattle.rv_assemble.specs.declared.object.ObjUnit.{ObjUnit}
-use Rattle.rv_assemble.specs.declared.object.Relocation.{Relocation}
 use Rattle.rv_assemble.specs.declared.object.RelocationKind.{RelocationKind}
 use Rattle.rv_assemble.specs.declared.object.RelocationKind.TheVariants.{Pair, Word}
 use Rattle.linker.specs.declared.offsets.Start.{Start}
 use Rattle.linker.specs.Layout.{codes, images, zeros, code_size, laid, offset_of}
 use Rattle.linker.specs.Starts.{IsStart, place_in}
-use Rattle.linker.specs.Linked.{Defines, NameLies, IsInside, IsLinkable, AreLinkable}
-use Rattle.linker.specs.Resolving.{IsBefore, StaysWithin}
+use Rattle.linker.specs.Linked.{NameLies, IsInside}
+use Rattle.linker.specs.Resolving.{StaysWithin}
 use Rattle.linker.proofs.Joined.{codes-more, images-more}
 
 abbrev pub code_before : List ObjUnit → ℕ → ℕ

@@ -4,7 +4,7 @@ use Rattle.std.specs.Prelude.{slice_get, Option, Some, None}
 use Rattle.rv_assemble.specs.declared.object.ObjUnit.{ObjUnit}
 use Rattle.rv_assemble.specs.declared.object.Relocation.{Relocation}
 use Rattle.rv_assemble.specs.declared.object.RelocationKind.TheVariants.{Pair, Word}
-use Rattle.linker.specs.Linked.{IsInside, IsLinkable, AreLinkable, Defines}
+use Rattle.linker.specs.Linked.{IsInside, AreLinkable}
 use Rattle.linker.specs.Trial.{IsTrial, asked_of}
 
 -- which of the two it is

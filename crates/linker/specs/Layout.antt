@@ -1,5 +1,5 @@
 -- Where the bytes of units lie in an image: first the code of all units, then zeros up to a multiple of 16, then the images of all units.
-use Rattle.std.specs.Prelude.{ℕ, zero, suc, ◌≡◌, ◌+◌, ◌-◌, ◌*◌, ◌/◌, nat_lt, if◌then◌else◌, List, [], ◌∷◌, ◌++◌, length, take}
+use Rattle.std.specs.Prelude.{ℕ, zero, suc, ◌+◌, ◌-◌, ◌*◌, ◌/◌, nat_lt, if◌then◌else◌, List, [], ◌∷◌, ◌++◌, length, take}
 use Rattle.rv_assemble.specs.declared.object.ObjUnit.{ObjUnit}
 
 abbrev pub codes : List ObjUnit → List ℕ

@@ -1,5 +1,5 @@
 -- The names that units define and ask for.
-use Rattle.std.specs.Prelude.{ℕ, ◌≡◌, ◌≤◌, ◌+◌, ◌⊎◌, List, [], ◌∷◌, ◌++◌, codes as text, string_bytes, bytes_eq, slice_get, Option, Some, None, if◌then◌else◌, String}
+use Rattle.std.specs.Prelude.{ℕ, ◌≡◌, ◌≤◌, ◌+◌, List, [], ◌∷◌, ◌++◌, codes as text, string_bytes, bytes_eq, slice_get, Option, Some, None, if◌then◌else◌, String}
 use Rattle.std.specs.declared.alloc.Global.{Global}
 use Rattle.rv_assemble.specs.declared.object.ObjUnit.{ObjUnit}
 use Rattle.rv_assemble.specs.declared.object.Relocation.{Relocation}

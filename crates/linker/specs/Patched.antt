@@ -1,5 +1,5 @@
 -- Bytes with an address put in (the RISC-V ELF psABI: R_RISCV_PCREL_HI20 with R_RISCV_PCREL_LO12_I, and R_RISCV_64).
-use Rattle.std.specs.Prelude.{ℕ, ◌≡◌, ◌≢◌, ◌<◌, ◌≤◌, ◌+◌, ◌*◌, ◌%◌, ◌^◌, ◌⊎◌, List, length, slice_index}
+use Rattle.std.specs.Prelude.{ℕ, ◌≡◌, ◌<◌, ◌≤◌, ◌+◌, ◌*◌, ◌%◌, ◌^◌, List, length, slice_index}
 use Rattle.jf_base.specs.Numbers.{number_low_first}
 use Rattle.rv_isa.specs.Encode.{IsSigned}
 

@@ -1,5 +1,5 @@
 -- What the linker's table of names keeps.
-use Rattle.std.specs.Prelude.{ℕ, ◌≡◌, ◌≤◌, List, slice_get, Some, None}
+use Rattle.std.specs.Prelude.{ℕ, ◌≡◌, ◌≤◌, List, None}
 use Rattle.linker.specs.Names.{Entry, definition_at, count_of, Holds}
 
 -- the table has the first of each name's definitions among the entries, and `twice` the names that have two

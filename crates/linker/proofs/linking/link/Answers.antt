@@ -1,14 +1,12 @@
-use Rattle.std.proofs.Common.{◌≡◌, ℕ, ◌+◌, ◌<◌, ◌≤◌, List, ◌++◌, length, take, drop, refl, sym, ap, ◌∙◌, subst, arith}
-use Rattle.std.specs.Prelude.{Option, Some, None}
+use Rattle.std.proofs.Common.{◌≡◌, ℕ, ◌<◌, List, ◌++◌, length, take, drop, sym, ap, ◌∙◌, subst, arith}
+use Rattle.std.specs.Prelude.{Option}
 use Rattle.std.proofs.Math.Seq.{take-append_seam}
 use Rattle.linker.specs.declared.offsets.Start.{Start}
 use Rattle.linker.specs.declared.fault.LinkFault.{LinkFault}
-use Rattle.linker.specs.Layout.{laid, code_size}
 use Rattle.linker.specs.Names.{entry_name}
 use Rattle.linker.specs.Starts.{AreStarts}
 use Rattle.linker.specs.Told.{Tells}
 use Rattle.linker.specs.Linked.{IsLinked}
-use Rattle.linker.specs.Resolving.{IsDone, IsReady}
 use Rattle.linker.proofs.Found.{table-defines, all-answered, entry-defined}
 use Rattle.linker.proofs.Outcome.{told, none-told, linked}
 use Rattle.linker.proofs.linking.link.Goals as goal

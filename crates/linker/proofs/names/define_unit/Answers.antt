@@ -1,10 +1,9 @@
-use Rattle.std.proofs.Common.{◌≡◌, ℕ, ◌+◌, List, [], ◌∷◌, ◌++◌, length, take, refl, sym, ap, ◌∙◌, subst, arith}
-use Rattle.std.specs.Prelude.{Option, Some, None}
+use Rattle.std.proofs.Common.{List, [], ◌∷◌, ◌++◌, length, take, refl, sym, ap, ◌∙◌, subst, arith}
 use Rattle.std.proofs.lemmas.Option.{slice_get_read}
 use Rattle.std.proofs.lemmas.List.{append_assoc}
-use Rattle.linker.specs.Names.{Entry, definition_at, unit_entries, entries_from, asked_names, asked_of_units}
-use Rattle.linker.specs.Table.{IsTable, AreMissed}
-use Rattle.linker.proofs.Tabled.{table-again, table-new, unit-more, from-more, names-more, asked-more, missed-same, missed-more, definition}
+use Rattle.linker.specs.Names.{Entry, unit_entries}
+use Rattle.linker.specs.Table.{IsTable}
+use Rattle.linker.proofs.Tabled.{unit-more, definition}
 use Rattle.linker.proofs.names.define_unit.Goals as goal
 
 pub loop-name-preserved : goal.loop-name-preserved

@@ -1,6 +1,6 @@
-use Rattle.std.proofs.Common.{ℕ, List, ◌++◌, take}
-use Rattle.linker.specs.Names.{Entry, unit_entries, entries_from, asked_names, asked_of_units}
-use Rattle.linker.specs.Table.{IsTable, AreMissed}
+use Rattle.std.proofs.Common.{List, ◌++◌, take}
+use Rattle.linker.specs.Names.{Entry, unit_entries}
+use Rattle.linker.specs.Table.{IsTable}
 use Rattle.linker.proofs.names.define_unit.Given as goal
 
 abbrev pub invariant-loop-name : goal.invariant-loop-name

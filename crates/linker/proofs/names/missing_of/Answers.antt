@@ -1,11 +1,9 @@
-use Rattle.std.proofs.Common.{◌≡◌, ℕ, ◌+◌, List, [], ◌∷◌, ◌++◌, length, take, refl, sym, ap, ◌∙◌, subst, arith}
-use Rattle.std.specs.Prelude.{Option, Some, None}
+use Rattle.std.proofs.Common.{ℕ, List, ◌++◌, length, take, refl, sym, ap, ◌∙◌, subst, arith}
 use Rattle.std.proofs.lemmas.Option.{slice_get_read}
-use Rattle.std.proofs.lemmas.List.{append_assoc}
 use Rattle.rv_assemble.specs.declared.object.Relocation.{Relocation}
-use Rattle.linker.specs.Names.{Entry, definition_at, unit_entries, entries_from, asked_names, asked_of_units}
-use Rattle.linker.specs.Table.{IsTable, AreMissed}
-use Rattle.linker.proofs.Tabled.{table-again, table-new, unit-more, from-more, names-more, asked-more, missed-same, missed-more, definition}
+use Rattle.linker.specs.Names.{asked_names, asked_of_units}
+use Rattle.linker.specs.Table.{AreMissed}
+use Rattle.linker.proofs.Tabled.{asked-more}
 use Rattle.linker.proofs.names.missing_of.Goals as goal
 
 pub loop-u-preserved : goal.loop-u-preserved

@@ -1,6 +1,6 @@
-use Rattle.std.proofs.Common.{ℕ, List, ◌++◌, take}
-use Rattle.linker.specs.Names.{Entry, unit_entries, entries_from, asked_names, asked_of_units}
-use Rattle.linker.specs.Table.{IsTable, AreMissed}
+use Rattle.std.proofs.Common.{take}
+use Rattle.linker.specs.Names.{asked_of_units}
+use Rattle.linker.specs.Table.{AreMissed}
 use Rattle.linker.proofs.names.missing_of.Given as goal
 
 abbrev pub invariant-loop-u : goal.invariant-loop-u

@@ -1,6 +1,6 @@
-use Rattle.std.proofs.Common.{ℕ, List, ◌++◌, take}
-use Rattle.linker.specs.Names.{Entry, unit_entries, entries_from, asked_names, asked_of_units}
-use Rattle.linker.specs.Table.{IsTable, AreMissed}
+use Rattle.std.proofs.Common.{take}
+use Rattle.linker.specs.Names.{entries_from}
+use Rattle.linker.specs.Table.{IsTable}
 use Rattle.linker.proofs.names.table_of.Given as goal
 
 abbrev pub invariant-loop-k : goal.invariant-loop-k

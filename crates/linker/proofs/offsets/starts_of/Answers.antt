@@ -1,8 +1,7 @@
-use Rattle.std.proofs.Common.{◌≡◌, ℕ, ◌+◌, ◌<◌, List, [], ◌∷◌, ◌++◌, length, length-append, take, refl, sym, ap, ◌∙◌, subst, arith}
+use Rattle.std.proofs.Common.{◌≡◌, List, [], ◌∷◌, ◌++◌, length, length-append, refl, ap, ◌∙◌, subst, arith}
 use Rattle.std.specs.Prelude.{slice_get, Some}
 use Rattle.std.proofs.lemmas.Option.{slice_get_read}
 use Rattle.linker.specs.declared.offsets.Start.{Start}
-use Rattle.linker.specs.Layout.{code_size}
 use Rattle.linker.specs.Starts.{IsStart}
 use Rattle.linker.proofs.Sites.{code_next, image_next}
 use Rattle.linker.proofs.Placed.{code_small, image_small, starts-more}

@@ -1,9 +1,8 @@
-use Rattle.std.proofs.Common.{◌≡◌, ℕ, ◌+◌, ◌<◌, ◌≤◌, List, length, get_or, refl, sym, ap, ◌∙◌, subst, arith}
-use Rattle.std.specs.Prelude.{slice_get, Some}
-use Rattle.std.proofs.lemmas.Option.{slice_get_read, slice_get_within}
+use Rattle.std.proofs.Common.{◌≡◌, ℕ, List, length, get_or, refl, sym, ap, ◌∙◌, subst, arith}
+use Rattle.std.specs.Prelude.{Some}
+use Rattle.std.proofs.lemmas.Option.{slice_get_read}
 use Rattle.rv_assemble.specs.declared.object.ObjUnit.{ObjUnit}
 use Rattle.linker.specs.declared.offsets.Start.{Start}
-use Rattle.linker.specs.Layout.{laid, offset_of}
 use Rattle.linker.specs.Starts.{place_in}
 use Rattle.linker.specs.Patched.{IsSameOutside}
 use Rattle.linker.specs.Linked.{Defines, NameLies, HasTarget}

@@ -1,9 +1,8 @@
-use Rattle.std.proofs.Common.{◌≡◌, ℕ, ◌+◌, ◌<◌, ◌≤◌, List, length, get_or, refl, sym, ap, ◌∙◌, subst, arith}
-use Rattle.std.specs.Prelude.{slice_get, Some}
+use Rattle.std.proofs.Common.{◌≡◌, ◌+◌, length, get_or, refl, sym, ap, ◌∙◌, arith}
+use Rattle.std.specs.Prelude.{Some}
 use Rattle.std.proofs.lemmas.Option.{slice_get_read, slice_get_within}
 use Rattle.rv_assemble.specs.declared.object.ObjUnit.{ObjUnit}
 use Rattle.linker.specs.declared.offsets.Start.{Start}
-use Rattle.linker.specs.Names.{definition_at}
 use Rattle.linker.specs.Starts.{place_in}
 use Rattle.linker.proofs.Sites.{place_in-is}
 use Rattle.linker.proofs.Placed.{start_of, code_small, image_small}

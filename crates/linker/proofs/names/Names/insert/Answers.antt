@@ -1,4 +1,4 @@
-use Rattle.std.proofs.Common.{ℕ, ◌∙◌, ap, map, ◌++◌, [], ◌∷◌, string_bytes}
+use Rattle.std.proofs.Common.{◌∙◌, ap, map, ◌++◌, [], ◌∷◌, string_bytes}
 use Rattle.std.specs.Prelude.{string_eq, String}
 use Rattle.std.specs.declared.alloc.Global.{Global}
 use Rattle.std.proofs.lemmas.List.{map-append}
