@@ -1,5 +1,5 @@
 -- Lines that call.
-use Rattle.std.proofs.Common.{◌≡◌, ◌≢◌, ℕ, ◌^◌, ◌<◌, List, [], ◌∷◌, ◌++◌, Option, Some, None, refl, sym, ap, ◌∙◌, codes, arith, get_or, map}
+use Rattle.std.proofs.Common.{◌≡◌, ◌≢◌, ℕ, List, [], ◌∷◌, ◌++◌, Option, Some, None, refl, sym, ap, ◌∙◌, codes, arith, get_or, map}
 use Rattle.std.specs.List.{All}
 use Rattle.std.specs.Option.{MatchOption}
 use Rattle.std.specs.Fmt.{decimal}
@@ -17,22 +17,22 @@ call_rest line label a b el ea n e = rest_of label a b (codes "(" ++ (decimal n 
 
 call_digits : (line label a b d : List ℕ) → line ≡ codes "call " ++ a → a ≡ label ++ b → b ≡ codes "(" ++ (d ++ codes "_c_int)") → (n : ℕ) → line ≡ call_line label n → d ≡ decimal n
 call_digits line label a b d el ea eb n e =
-  start_of (codes "_c_int)") (d ++ codes "_c_int)") d (decimal n) refl
+    start_of (codes "_c_int)") (d ++ codes "_c_int)") d (decimal n) refl
     (rest_of (codes "(") b (d ++ codes "_c_int)") (decimal n ++ codes "_c_int)") eb (call_rest line label a b el ea n e))
 
 pub call_is : (line label a b d : List ℕ) (r : Option ℕ) → line ≡ codes "call " ++ a → a ≡ label ++ b → b ≡ codes "(" ++ (d ++ codes "_c_int)")
-  → MatchOption r ((n : ℕ) → IsInt n → d ≢ decimal n) (λ n. IsInt n × (d ≡ decimal n))
-  → MatchOption r ((n : ℕ) → IsInt n → line ≢ call_line label n) (λ n. IsInt n × (line ≡ call_line label n))
+    → MatchOption r ((n : ℕ) → IsInt n → d ≢ decimal n) (λ n. IsInt n × (d ≡ decimal n))
+    → MatchOption r ((n : ℕ) → IsInt n → line ≢ call_line label n) (λ n. IsInt n × (line ≡ call_line label n))
 unfolding call_line
 call_is line label a b d None el ea eb none = λ n small e. none n small (call_digits line label a b d el ea eb n e)
 call_is line label a b d (Some n) el ea eb (small, e) =
-  (small, el ∙ ap (λ (x : List ℕ). codes "call " ++ x) (ea ∙ ap (λ (x : List ℕ). label ++ x) (eb ∙ ap (λ (x : List ℕ). codes "(" ++ (x ++ codes "_c_int)")) e)))
+    (small, el ∙ ap (λ (x : List ℕ). codes "call " ++ x) (ea ∙ ap (λ (x : List ℕ). label ++ x) (eb ∙ ap (λ (x : List ℕ). codes "(" ++ (x ++ codes "_c_int)")) e)))
 
 -- a line calls with one number
 pub call_line_injective : (label : List ℕ) (m n : ℕ) → IsInt m → IsInt n → call_line label m ≡ call_line label n → m ≡ n
 unfolding call_line
 call_line_injective label m n hm hn e =
-  decimal_injective m n (omega arith) (omega arith)
+    decimal_injective m n (omega arith) (omega arith)
     (call_digits (call_line label m) label (label ++ (codes "(" ++ (decimal m ++ codes "_c_int)"))) (codes "(" ++ (decimal m ++ codes "_c_int)")) (decimal m) refl refl refl n e)
 
 -- the last line calls nothing
@@ -50,11 +50,11 @@ no_call_at_end label n rest h e = end_is_no_call label n (head_of refl e)
 
 -- the calls that are read are those that the text has
 pub calls_are_read : (label : List ℕ) (text : List (List ℕ)) (calls others : List ℕ) (rest : List (List ℕ)) → IsLongestRun (call_before label) IsInt text calls rest → All IsInt others
-  → text ≡ map (call_line label) others ++ (end_line ∷ []) → (calls ≡ others) × (rest ≡ end_line ∷ [])
+    → text ≡ map (call_line label) others ++ (end_line ∷ []) → (calls ≡ others) × (rest ≡ end_line ∷ [])
 calls_are_read label text calls others rest run small e =
-  longest_run (call_before label) IsInt (one_call label) text calls others rest (end_line ∷ []) run small (no_call_at_end label)
+    longest_run (call_before label) IsInt (one_call label) text calls others rest (end_line ∷ []) run small (no_call_at_end label)
     (e ∙ sym (spelled_lines (call_line label) others (end_line ∷ [])))
 
 pub calls_are_there : (label : List ℕ) (text : List (List ℕ)) (calls : List ℕ) (rest : List (List ℕ)) → IsLongestRun (call_before label) IsInt text calls rest → rest ≡ end_line ∷ []
-  → text ≡ map (call_line label) calls ++ (end_line ∷ [])
+    → text ≡ map (call_line label) calls ++ (end_line ∷ [])
 calls_are_there label text calls rest run e = run.spelling ∙ (ap (spelled (call_before label) calls) e ∙ spelled_lines (call_line label) calls (end_line ∷ []))

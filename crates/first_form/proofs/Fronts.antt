@@ -18,7 +18,7 @@ pub start_of : (end text a b : List ℕ) → text ≡ a ++ end → text ≡ b ++
 start_of end text a b e h = append_cancel_right a b end (sym e ∙ h)
 
 pub between_is : (text front end rest : List ℕ) (r : Option (Bor (List ℕ))) → text ≡ front ++ rest → MatchOption r ((x : List ℕ) → rest ≢ x ++ end) (λ x. rest ≡ x.now ++ end)
-  → MatchOption r ((x : List ℕ) → text ≢ front ++ (x ++ end)) (λ x. text ≡ front ++ (x.now ++ end))
+    → MatchOption r ((x : List ℕ) → text ≢ front ++ (x ++ end)) (λ x. text ≡ front ++ (x.now ++ end))
 between_is text front end rest None e none = λ x h. none x (rest_of front text rest (x ++ end) e h)
 between_is text front end rest (Some x) e some = e ∙ ap (λ (y : List ℕ). front ++ y) some
 

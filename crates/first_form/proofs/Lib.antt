@@ -8,3 +8,4 @@ pub mod FortranTexts
 pub mod PutTexts
 pub mod CTexts
 pub mod OneReading
+pub mod PlainLines

@@ -1,12 +1,12 @@
 -- Numerals without a sign or a leading zero are what `decimal` writes.
-use Rattle.std.proofs.Common.{◌≡◌, ◌≢◌, ℕ, zero, suc, ◌+◌, ◌<◌, ◌≤◌, ◌^◌, List, [], ◌∷◌, ◌++◌, length, get_or, refl, sym, ap, subst, arith, ◌∙◌, ◌⊎◌, inl, inr, Result, Ok, Err, Option, Some, None}
+use Rattle.std.proofs.Common.{◌≡◌, ◌≢◌, ℕ, zero, suc, ◌<◌, List, [], ◌∷◌, length, get_or, refl, sym, ap, subst, arith, ◌∙◌, ◌⊎◌, inl, inr, Result, Ok, Err, Option, Some, None}
 use Rattle.std.specs.List.{All}
 use Rattle.std.specs.Fmt.{decimal}
 use Rattle.std.specs.Char.{IsAsciiDigit, IsAsciiLowercase}
 use Rattle.std.specs.Str.{IsAscii, IsUtf8}
 use Rattle.std.specs.Str.Parse.{AllDigits, digits_value, ParsesUnsigned}
 use Rattle.std.specs.Option.{MatchOption, SomeIff}
-use Rattle.std.proofs.lemmas.List.Elements.{All-from_get_or, All-get_or, All-head, All-tail}
+use Rattle.std.proofs.lemmas.List.Elements.{All-from_get_or, All-head, All-tail}
 use Rattle.std.proofs.lemmas.Str.Parse.{IsNumeralModel, numerals_by_value, tells_digits, tells_by_index, parse_gives}
 use Rattle.std.proofs.lemmas.Fmt.{decimal_is_IsNumeral, decimal_digit, first_decimal, decimal-digits_value, IsAscii-from_digits}
 use Rattle.std.proofs.lemmas.Str.{IsUtf8-from_ascii}
@@ -30,8 +30,9 @@ zero_or (suc m) = inr (omega arith)
 
 plain_start : (n : ℕ) → IsInt n → get_or (decimal n) 0 0 ≡ 48 → length (decimal n) ≡ 1
 plain_start n h e = elim (zero_or n) [
-  inl z ↦ ap (λ (m : ℕ). length (decimal m)) z ∙ ap length (decimal_digit 0 (omega arith))
-  | inr p ↦ absurd (omega (arith, first_decimal n p (omega arith))) ]
+  | inl z ↦ ap (λ (m : ℕ). length (decimal m)) z ∙ ap length (decimal_digit 0 (omega arith))
+  | inr p ↦ absurd (omega (arith, first_decimal n p (omega arith)))
+]
 
 -- what is written of a number is such a numeral
 pub decimal_plain : (n : ℕ) → IsInt n → IsPlainNumeral (decimal n)
@@ -51,12 +52,12 @@ plain_decimal ds h small = sym (decimal-digits_value own ds (all_digits ds h.dig
 -- what `parse` refuses is no such numeral of an `int`
 pub refused : {E : Type 0} (text ds : List ℕ) (r : Result ℕ E) (e : E) → text ≡ ds → ParsesUnsigned 32 10 text r → r ≡ Err e → IsPlainNumeral ds → IsInt (digits_value 10 ds) → ⊥
 refused {E} text ds r e same parsed err plain small =
-  let gives : r ≡ Ok (digits_value 10 ds) = parse_gives own 32 ds r (subst (λ (x : List ℕ). ParsesUnsigned 32 10 x r) same parsed) (all_digits ds plain.digits) plain.some (omega arith) in
-  cc
+    let gives : r ≡ Ok (digits_value 10 ds) = parse_gives own 32 ds r (subst (λ (x : List ℕ). ParsesUnsigned 32 10 x r) same parsed) (all_digits ds plain.digits) plain.some (omega arith) in
+    cc
 
 -- the value is what is read, and nothing else
 pub value_is_read : (ds : List ℕ) (r : Option ℕ) → IsPlainNumeral ds → SomeIff r (IsInt (digits_value 10 ds)) (digits_value 10 ds)
-  → MatchOption r ((n : ℕ) → IsInt n → ds ≢ decimal n) (λ n. IsInt n × (ds ≡ decimal n))
+    → MatchOption r ((n : ℕ) → IsInt n → ds ≢ decimal n) (λ n. IsInt n × (ds ≡ decimal n))
 value_is_read ds None plain none = λ n small e. none (omega (arith, ap (digits_value 10) e ∙ value_of_decimal n small))
 value_is_read ds (Some n) plain (small, e) = (omega arith, plain_decimal ds plain small ∙ ap decimal (sym e))
 

@@ -1,7 +1,5 @@
 -- Statements that put.
-use Rattle.std.proofs.Common.{◌≡◌, ◌≢◌, ℕ, zero, suc, ◌+◌, ◌<◌, List, [], ◌∷◌, ◌++◌, Option, Some, None, length, map, get_or, refl, sym, ap, subst, ◌∙◌, codes, arith, append_assoc, inl, inr, ◌⊎◌}
-use Rattle.std.specs.Option.{MatchOption}
-use Rattle.std.specs.Borrow.{Bor}
+use Rattle.std.proofs.Common.{◌≡◌, ◌≢◌, ℕ, List, [], ◌∷◌, ◌++◌, map, get_or, refl, sym, ap, subst, ◌∙◌, codes, arith, append_assoc}
 use Rattle.std.specs.List.{All, flat_map}
 use Rattle.std.specs.Fmt.{decimal}
 use Rattle.std.specs.Char.{IsAsciiDigit}
@@ -28,9 +26,9 @@ cut_one at [] [] y b hx ha e = (refl, tail_of refl e)
 cut_one at [] (c ∷ a) y b hx ha e = absurd (All-head (λ d. d ≢ at) c a ha (sym (head_of refl e)))
 cut_one at (c ∷ x) [] y b hx ha e = absurd (All-head (λ d. d ≢ at) c x hx (head_of refl e))
 cut_one at (c ∷ x) (d ∷ a) y b hx ha e =
-  let more : (x ≡ a) × (y ≡ b) = cut_one at x a y b (All-tail (λ d. d ≢ at) c x hx) (All-tail (λ c. c ≢ at) d a ha) (tail_of refl e) in
-  let same : c ≡ d = head_of refl e in
-  (cc (same, more.0), more.1)
+    let more : (x ≡ a) × (y ≡ b) = cut_one at x a y b (All-tail (λ d. d ≢ at) c x hx) (All-tail (λ c. c ≢ at) d a ha) (tail_of refl e) in
+    let same : c ≡ d = head_of refl e in
+    (cc (same, more.0), more.1)
 
 -- no parenthesis stands in an argument
 pub argument_is_free : (argument : PutcharArgument) → IsArgument argument → All (λ b. b ≢ 41) (argument_text argument)
@@ -39,9 +37,9 @@ argument_is_free (Number n) h = All-weaker IsAsciiDigit (λ b. b ≢ 41) (λ b d
 
 pub no_digit : (n : ℕ) → IsInt n → codes "c" ≢ decimal n
 no_digit n h e =
-  let digits : All IsAsciiDigit (99 ∷ []) = subst (All IsAsciiDigit) (sym e) (decimal_plain n h).digits in
-  let digit : IsAsciiDigit 99 = All-head IsAsciiDigit 99 [] digits in
-  omega arith
+    let digits : All IsAsciiDigit (99 ∷ []) = subst (All IsAsciiDigit) (sym e) (decimal_plain n h).digits in
+    let digit : IsAsciiDigit 99 = All-head IsAsciiDigit 99 [] digits in
+    omega arith
 
 pub argument_text_injective : (a b : PutcharArgument) → IsArgument a → IsArgument b → argument_text a ≡ argument_text b → a ≡ b
 argument_text_injective Parameter Parameter ha hb e = refl
@@ -55,9 +53,9 @@ put_shape argument rest = ap (λ (x : List ℕ). codes "putchar(" ++ x) (append_
 
 -- what stands before the first parenthesis, and behind it
 pub put_parts : (text inner argument behind : List ℕ) → text ≡ codes "putchar(" ++ inner → inner ≡ argument ++ (41 ∷ behind) → All (λ b. b ≢ 41) argument
-  → (a : PutcharArgument) (rest : List ℕ) → IsArgument a → text ≡ put_text a ++ rest → (argument ≡ argument_text a) × (behind ≡ 59 ∷ rest)
+    → (a : PutcharArgument) (rest : List ℕ) → IsArgument a → text ≡ put_text a ++ rest → (argument ≡ argument_text a) × (behind ≡ 59 ∷ rest)
 put_parts text inner argument behind et ei free a rest h e =
-  cut_one 41 argument (argument_text a) behind (59 ∷ rest) free (argument_is_free a h)
+    cut_one 41 argument (argument_text a) behind (59 ∷ rest) free (argument_is_free a h)
     (sym ei ∙ rest_of (codes "putchar(") text inner (argument_text a ++ (41 ∷ 59 ∷ rest)) et (e ∙ put_shape a rest))
 
 pub inner_part : (text inner : List ℕ) → text ≡ codes "putchar(" ++ inner → (a : PutcharArgument) (rest : List ℕ) → text ≡ put_text a ++ rest → inner ≡ argument_text a ++ (41 ∷ 59 ∷ rest)
@@ -65,19 +63,19 @@ inner_part text inner et a rest e = rest_of (codes "putchar(") text inner (argum
 
 pub no_parenthesis : (text inner : List ℕ) → text ≡ codes "putchar(" ++ inner → All (λ b. b ≢ 41) inner → (a : PutcharArgument) (rest : List ℕ) → IsArgument a → text ≢ put_text a ++ rest
 no_parenthesis text inner et free a rest h e =
-  is_there 41 (argument_text a) (59 ∷ rest) (subst (All (λ b. b ≢ 41)) (inner_part text inner et a rest e) free)
+    is_there 41 (argument_text a) (59 ∷ rest) (subst (All (λ b. b ≢ 41)) (inner_part text inner et a rest e) free)
 
 pub put_is_there : (text inner argument behind rest : List ℕ) → text ≡ codes "putchar(" ++ inner → inner ≡ argument ++ (41 ∷ behind) → behind ≡ 59 ∷ rest
-  → (a : PutcharArgument) → argument ≡ argument_text a → text ≡ put_text a ++ rest
+    → (a : PutcharArgument) → argument ≡ argument_text a → text ≡ put_text a ++ rest
 put_is_there text inner argument behind rest et ei eb a ea =
-  et ∙ (ap (λ (x : List ℕ). codes "putchar(" ++ x) (ei ∙ (ap (λ (x : List ℕ). argument ++ (41 ∷ x)) eb ∙ ap (λ (x : List ℕ). x ++ (41 ∷ 59 ∷ rest)) ea)) ∙ sym (put_shape a rest))
+    et ∙ (ap (λ (x : List ℕ). codes "putchar(" ++ x) (ei ∙ (ap (λ (x : List ℕ). argument ++ (41 ∷ x)) eb ∙ ap (λ (x : List ℕ). x ++ (41 ∷ 59 ∷ rest)) ea)) ∙ sym (put_shape a rest))
 
 -- one statement in front of a text
 pub one_put : (a b : PutcharArgument) (r s : List ℕ) → IsArgument a → IsArgument b → put_before a r ≡ put_before b s → (a ≡ b) × (r ≡ s)
 one_put a b r s ha hb e =
-  let parts : (argument_text a ≡ argument_text b) × (59 ∷ r ≡ 59 ∷ s)
+    let parts : (argument_text a ≡ argument_text b) × (59 ∷ r ≡ 59 ∷ s)
     = put_parts (put_text a ++ r) (argument_text a ++ (41 ∷ 59 ∷ r)) (argument_text a) (59 ∷ r) (put_shape a r) refl (argument_is_free a ha) b s hb e in
-  (argument_text_injective a b ha hb parts.0, tail_of refl parts.1)
+    (argument_text_injective a b ha hb parts.0, tail_of refl parts.1)
 
 -- the same of a whole line
 pub whole_put : (line : List ℕ) (a b : PutcharArgument) (rest : List ℕ) → IsArgument a → IsArgument b → line ≡ put_text a ++ rest → line ≡ put_text b → (a ≡ b) × (rest ≡ [])
@@ -96,18 +94,18 @@ no_put_line_at_end a rest h e = no_put_at_end a [] h (head_of refl e ∙ sym (ap
 
 -- the statements that are read are those that the text has
 pub puts_are_read : (text : List ℕ) (puts others : List PutcharArgument) (rest : List ℕ) → IsLongestRun put_before IsArgument text puts rest → All IsArgument others
-  → text ≡ flat_map put_text others ++ closing_text → (puts ≡ others) × (rest ≡ closing_text)
+    → text ≡ flat_map put_text others ++ closing_text → (puts ≡ others) × (rest ≡ closing_text)
 puts_are_read text puts others rest run are e =
-  longest_run put_before IsArgument one_put text puts others rest closing_text run are no_put_at_end (e ∙ sym (spelled_text put_text others closing_text))
+    longest_run put_before IsArgument one_put text puts others rest closing_text run are no_put_at_end (e ∙ sym (spelled_text put_text others closing_text))
 
 pub puts_are_there : (text : List ℕ) (puts : List PutcharArgument) (rest : List ℕ) → IsLongestRun put_before IsArgument text puts rest → rest ≡ closing_text → text ≡ flat_map put_text puts ++ closing_text
 puts_are_there text puts rest run e = run.spelling ∙ (ap (spelled put_before puts) e ∙ spelled_text put_text puts closing_text)
 
 pub put_lines_are_read : (text : List (List ℕ)) (puts others : List PutcharArgument) (rest : List (List ℕ)) → IsLongestRun put_line_before IsArgument text puts rest → All IsArgument others
-  → text ≡ map put_text others ++ (closing_text ∷ []) → (puts ≡ others) × (rest ≡ closing_text ∷ [])
+    → text ≡ map put_text others ++ (closing_text ∷ []) → (puts ≡ others) × (rest ≡ closing_text ∷ [])
 put_lines_are_read text puts others rest run are e =
-  longest_run put_line_before IsArgument one_put_line text puts others rest (closing_text ∷ []) run are no_put_line_at_end (e ∙ sym (spelled_lines put_text others (closing_text ∷ [])))
+    longest_run put_line_before IsArgument one_put_line text puts others rest (closing_text ∷ []) run are no_put_line_at_end (e ∙ sym (spelled_lines put_text others (closing_text ∷ [])))
 
 pub put_lines_are_there : (text : List (List ℕ)) (puts : List PutcharArgument) (rest : List (List ℕ)) → IsLongestRun put_line_before IsArgument text puts rest → rest ≡ closing_text ∷ []
-  → text ≡ map put_text puts ++ (closing_text ∷ [])
+    → text ≡ map put_text puts ++ (closing_text ∷ [])
 put_lines_are_there text puts rest run e = run.spelling ∙ (ap (spelled put_line_before puts) e ∙ spelled_lines put_text puts (closing_text ∷ []))

@@ -1,5 +1,5 @@
 -- The lines of a text, one after another.
-use Rattle.std.proofs.Common.{◌≡◌, ◌≢◌, ℕ, zero, suc, ◌+◌, ◌-◌, ◌<◌, Bool, true, false, cond, eqb, List, [], ◌∷◌, ◌++◌, length, map, take, get_or, refl, sym, ap, arith, ◌∙◌}
+use Rattle.std.proofs.Common.{◌≡◌, ◌≢◌, ℕ, suc, ◌<◌, false, eqb, List, [], ◌∷◌, ◌++◌, length, map, refl, sym, ap, arith, ◌∙◌}
 use Rattle.std.specs.List.{All, slice_split}
 use Rattle.std.specs.Str.Lines.{lines, lines_of_parts, strip_carriage_return}
 use Rattle.std.proofs.lemmas.Bool.{ne_eqb}
@@ -23,7 +23,7 @@ pub text_lines-last : (text line : List ℕ) → (length text ≡ 0 → ⊥) →
 unfolding text_lines
 text_lines-last [] line some none e = absurd (some refl)
 text_lines-last (byte ∷ bytes) line some none e =
-  ap (λ (parts : List (List ℕ)). map trimmed (lines_of_parts parts)) (slice_split_none (λ b. eqb b 10) (byte ∷ bytes) (not_feed (byte ∷ bytes) none))
+    ap (λ (parts : List (List ℕ)). map trimmed (lines_of_parts parts)) (slice_split_none (λ b. eqb b 10) (byte ∷ bytes) (not_feed (byte ∷ bytes) none))
     ∙ (ap (map trimmed) (one_part byte bytes) ∙ ap (λ (x : List ℕ). x ∷ []) (sym e))
 
 -- a part with another behind it is a line
@@ -35,8 +35,8 @@ parts-cons line (part ∷ parts) more = refl
 pub text_lines-first : (text before rest line : List ℕ) → text ≡ before ++ (10 ∷ rest) → All (λ b. b ≢ 10) before → line ≡ trimmed (strip_carriage_return before) → text_lines text ≡ line ∷ text_lines rest
 unfolding text_lines
 text_lines-first text before rest line cut none e =
-  let parts : slice_split (λ b. eqb b 10) (before ++ (10 ∷ rest)) ≡ before ∷ slice_split (λ b. eqb b 10) rest = slice_split_at (λ b. eqb b 10) before 10 rest (not_feed before none) refl in
-  let some : 0 < length (slice_split (λ b. eqb b 10) rest) = omega (arith, length-slice_split (λ b. eqb b 10) rest) in
-  ap (λ (x : List ℕ). map trimmed (lines x)) cut
+    let parts : slice_split (λ b. eqb b 10) (before ++ (10 ∷ rest)) ≡ before ∷ slice_split (λ b. eqb b 10) rest = slice_split_at (λ b. eqb b 10) before 10 rest (not_feed before none) refl in
+    let some : 0 < length (slice_split (λ b. eqb b 10) rest) = omega (arith, length-slice_split (λ b. eqb b 10) rest) in
+    ap (λ (x : List ℕ). map trimmed (lines x)) cut
     ∙ (ap (map trimmed) (ap lines_of_parts parts ∙ parts-cons before (slice_split (λ b. eqb b 10) rest) some)
-      ∙ ap (λ (x : List ℕ). x ∷ map trimmed (lines rest)) (sym e))
+    ∙ ap (λ (x : List ℕ). x ∷ map trimmed (lines rest)) (sym e))

@@ -14,7 +14,7 @@ program_lines name = (codes "program " ++ name) ∷ codes "use iso_c_binding" �
 -- interface-body and end-interface-stmt: ISO/IEC 1539-1:2018, R1505 and R1504
 unfoldable pub interface_lines : List ℕ → List (List ℕ)
 interface_lines label = (codes "subroutine " ++ (label ++ codes "(c) bind(c)")) ∷ codes "import" ∷ codes "integer(c_int), value :: c" ∷ codes "end subroutine"
-  ∷ codes "end interface" ∷ []
+    ∷ codes "end interface" ∷ []
 
 -- call-stmt with an int-literal-constant: ISO/IEC 1539-1:2018, R1521 and R708
 unfoldable pub call_line : List ℕ → ℕ → List ℕ
@@ -28,7 +28,7 @@ end_line = codes "end program"
 abbrev pub fortran_lines : List ℕ → List ℕ → List ℕ → List (List ℕ)
 fortran_lines name label calls = program_lines name ++ (interface_lines label ++ (map (call_line label) calls ++ (end_line ∷ [])))
 
--- what stands between the parentheses: the parameter, or a decimal-constant (ISO/IEC 9899:2011, 6.4.4.1)
+-- what stands between the parentheses: the parameter, or an integer-constant (ISO/IEC 9899:2011, 6.4.4.1)
 abbrev pub argument_text : PutcharArgument → List ℕ
 argument_text Parameter = codes "c"
 argument_text (Number number) = decimal number

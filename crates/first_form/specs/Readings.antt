@@ -1,5 +1,5 @@
 -- What a pair of texts is read as.
-use Rattle.std.specs.Prelude.{◌≡◌, ℕ, ◌+◌, ◌*◌, ◌≤◌, List, length}
+use Rattle.std.specs.Prelude.{ℕ, ◌+◌, ◌*◌, List, length}
 use Rattle.first_form.specs.Words.{IsName}
 use Rattle.first_form.specs.Forms.{IsFortranText, IsCText, AreCalls, ArePuts}
 use Rattle.first_form.specs.declared.program.PutcharArgument.{PutcharArgument}

@@ -11,16 +11,16 @@ pub record IsName (word : List ℕ) : Type 0 where
 -- ISO/IEC 9899:2011, 6.4.1
 unfoldable pub keywords : List (List ℕ)
 keywords = codes "auto" ∷ codes "break" ∷ codes "case" ∷ codes "char" ∷ codes "const" ∷ codes "continue" ∷ codes "default" ∷ codes "do" ∷ codes "double"
-  ∷ codes "else" ∷ codes "enum" ∷ codes "extern" ∷ codes "float" ∷ codes "for" ∷ codes "goto" ∷ codes "if" ∷ codes "inline" ∷ codes "int" ∷ codes "long"
-  ∷ codes "register" ∷ codes "restrict" ∷ codes "return" ∷ codes "short" ∷ codes "signed" ∷ codes "sizeof" ∷ codes "static" ∷ codes "struct"
-  ∷ codes "switch" ∷ codes "typedef" ∷ codes "union" ∷ codes "unsigned" ∷ codes "void" ∷ codes "volatile" ∷ codes "while"
-  ∷ codes "_Alignas" ∷ codes "_Alignof" ∷ codes "_Atomic" ∷ codes "_Bool" ∷ codes "_Complex" ∷ codes "_Generic" ∷ codes "_Imaginary" ∷ codes "_Noreturn"
-  ∷ codes "_Static_assert" ∷ codes "_Thread_local" ∷ []
+    ∷ codes "else" ∷ codes "enum" ∷ codes "extern" ∷ codes "float" ∷ codes "for" ∷ codes "goto" ∷ codes "if" ∷ codes "inline" ∷ codes "int" ∷ codes "long"
+    ∷ codes "register" ∷ codes "restrict" ∷ codes "return" ∷ codes "short" ∷ codes "signed" ∷ codes "sizeof" ∷ codes "static" ∷ codes "struct"
+    ∷ codes "switch" ∷ codes "typedef" ∷ codes "union" ∷ codes "unsigned" ∷ codes "void" ∷ codes "volatile" ∷ codes "while"
+    ∷ codes "_Alignas" ∷ codes "_Alignof" ∷ codes "_Atomic" ∷ codes "_Bool" ∷ codes "_Complex" ∷ codes "_Generic" ∷ codes "_Imaginary" ∷ codes "_Noreturn"
+    ∷ codes "_Static_assert" ∷ codes "_Thread_local" ∷ []
 
 -- the functions of the C library that programs may use: ISO/IEC 9899:2011, 7.22.3, 7.22.4, 7.21.7 and 7.24
 unfoldable pub library_functions : List (List ℕ)
 library_functions = codes "malloc" ∷ codes "free" ∷ codes "exit" ∷ codes "abort" ∷ codes "putchar" ∷ codes "getchar" ∷ codes "puts" ∷ codes "memcpy"
-  ∷ codes "memset" ∷ codes "strlen" ∷ []
+    ∷ codes "memset" ∷ codes "strlen" ∷ []
 
 -- words of C that name no function of the program: the first function of a C program is called `main` (ISO/IEC 9899:2011, 5.1.2.2.1)
 abbrev pub reserved_words : List (List ℕ)

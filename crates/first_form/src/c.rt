@@ -46,7 +46,11 @@ fn first_put_line(text: &[u8]) -> Option<(PutcharArgument, &[u8])>
 {
     let (line, rest) = first_line(text)?;
     let (argument, behind) = first_put(line)?;
-    if behind.is_empty() { Some((argument, rest)) } else { None }
+    if behind.is_empty() {
+        Some((argument, rest))
+    } else {
+        None
+    }
 }
 
 // The statements at the front of a text, and the text behind them.
@@ -118,7 +122,11 @@ fn function_start<'a>(text: &'a [u8], label: &[u8]) -> Option<(&'a [u8], &'a [u8
 }
 
 // What the statements put, where these stand behind the brace that opens the function.
-fn function_puts(alloc: Global, body: &[u8], rest: &[u8]) -> Result<Option<Vec<PutcharArgument>>, Memory>
+fn function_puts(
+    alloc: Global,
+    body: &[u8],
+    rest: &[u8],
+) -> Result<Option<Vec<PutcharArgument>>, Memory>
     ensures { IfOk result (λ r. MatchOption r
         ((puts : ListOf Argument) → ArePuts puts → ArePutsBehind body.now (text_lines rest.now) puts → ⊥)
         (λ v. ArePuts v.items × ArePutsBehind body.now (text_lines rest.now) v.items)) }
@@ -132,8 +140,13 @@ fn function_puts(alloc: Global, body: &[u8], rest: &[u8]) -> Result<Option<Vec<P
     puts_on_one_line(alloc, body)
 }
 
-/// Reads a C text that is to define `label`. The answer is None where it isn't of the form with this label.
-pub fn read_c(alloc: Global, bytes: &[u8], label: &[u8]) -> Result<Option<List<PutcharArgument>>, Memory>
+/// Reads the bytes of a C file that is to define `label`. The answer is None exactly where they aren't a text of the form with this label,
+/// and Err only where memory is wanting.
+pub fn read_c(
+    alloc: Global,
+    bytes: &[u8],
+    label: &[u8],
+) -> Result<Option<List<PutcharArgument>>, Memory>
     ensures { IfOk result (λ r. MatchOption r (IsNoCText bytes.now label.now) (λ puts. IsCText bytes.now label.now puts)) }
 {
     let Some((body, rest)) = function_start(bytes, label) else {

@@ -69,7 +69,11 @@ fn first_call<'a>(text: &'a [u8], label: &[u8]) -> Option<(u32, &'a [u8])>
 }
 
 // The calls at the front of a text, and the text behind them.
-fn read_calls<'a>(alloc: Global, text: &'a [u8], label: &[u8]) -> Result<(Vec<u32>, &'a [u8]), AllocError>
+fn read_calls<'a>(
+    alloc: Global,
+    text: &'a [u8],
+    label: &[u8],
+) -> Result<(Vec<u32>, &'a [u8]), AllocError>
     ensures { IfOk result (λ x. IsLongestRun (call_before label.now) IsInt (text_lines text.now) x.0.items (text_lines x.1.now)) }
 {
     let mut calls = Vec::new(alloc);
@@ -95,7 +99,7 @@ fn program_calls(alloc: Global, text: &[u8], label: &[u8]) -> Result<Option<Vec<
     }
 }
 
-/// Reads a Fortran text. The answer is None where it isn't of the form.
+/// Reads the bytes of a Fortran file. The answer is None exactly where they aren't a text of the form, and Err only where memory is wanting.
 pub fn read_fortran(alloc: Global, bytes: &[u8]) -> Result<Option<FortranForm>, Memory>
     ensures { IfOk result (λ r. MatchOption r (IsNoFortranText bytes.now) (λ f. IsFortranText bytes.now f.label f.calls)) }
 {

@@ -1,8 +1,9 @@
 //! Laws of the form.
 
 ghost use Rattle.std.specs.Prelude.{◌≡◌, ℕ, ◌≤◌, List as ListOf};
-ghost use Rattle.first_form.specs.Words.{IsName};
-ghost use Rattle.first_form.specs.Forms.{IsFortranText, IsCText};
+ghost use Rattle.first_form.specs.Lines.{written};
+ghost use Rattle.first_form.specs.Words.{IsName, IsLabel};
+ghost use Rattle.first_form.specs.Forms.{fortran_lines, c_lines, c_one_line, AreCalls, ArePuts, IsFortranText, IsCText};
 ghost use Rattle.first_form.specs.Readings.{AreTexts, IsReading, IsFirstProgram, token_count};
 ghost use Rattle.first_form.specs.declared.program.PutcharArgument.{PutcharArgument};
 ghost use Rattle.first_form.specs.declared.program.FirstProgram.{FirstProgram};
@@ -33,4 +34,10 @@ pub fn texts_are_of_a_program()
 /// The two texts of a program have at most 1,149 tokens.
 pub fn texts_have_few_tokens()
     ensures { (fortran c : ListOf ℕ) (program : FirstProgram) → AreTexts fortran c program → token_count program ≤ 1149 }
+{}
+
+/// Each program has texts that are read as it, with the C function written in either way.
+pub fn each_program_has_texts()
+    ensures { (name label calls : ListOf ℕ) (puts : ListOf PutcharArgument) → IsName name → IsLabel name label → AreCalls calls → ArePuts puts
+        → IsFortranText (written (fortran_lines name label calls)) label calls × IsCText (written (c_lines label puts)) label puts × IsCText (written (c_one_line label puts)) label puts }
 {}

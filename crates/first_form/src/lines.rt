@@ -62,9 +62,7 @@ pub(crate) fn first_line(text: &[u8]) -> Option<(&[u8], &[u8])>
     }
     match cut(text, b'\n') {
         None => Some((trimmed(text), &[])),
-        Some((line, rest)) => {
-            Some((trimmed(without_carriage_return(line)), rest))
-        }
+        Some((line, rest)) => { Some((trimmed(without_carriage_return(line)), rest)) }
     }
 }
 

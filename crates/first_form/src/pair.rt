@@ -17,7 +17,7 @@ pub enum Reading {
     C,
 }
 
-/// Reads the Fortran text and the C text of a program.
+/// Reads the bytes of the Fortran file and of the C file of a program, which is to define the label of the Fortran file. Err comes only where memory is wanting.
 pub fn read_pair(alloc: Global, fortran: &[u8], c: &[u8]) -> Result<Reading, Memory>
     ensures { IfOk result (IsReading fortran.now c.now) }
 {

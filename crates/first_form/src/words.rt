@@ -101,7 +101,9 @@ fn is_plain_numeral(digits: &[u8]) -> bool
     ensures { IsTrue result ↔ IsPlainNumeral digits.now }
 {
     match digits.split_first() {
-        Some((first, rest)) => (*first != b'0' || rest.is_empty()) && digits.iter().all(|digit| digit.is_ascii_digit()),
+        Some((first, rest)) => {
+            (*first != b'0' || rest.is_empty()) && digits.iter().all(|digit| digit.is_ascii_digit())
+        }
         None => false,
     }
 }
@@ -123,7 +125,11 @@ fn value_of(digits: &[u8]) -> Option<u32>
 pub(crate) fn number_of(digits: &[u8]) -> Option<u32>
     ensures { MatchOption result ((n : ℕ) → IsInt n → digits.now ≢ decimal n) (λ n. IsInt n × (digits.now ≡ decimal n)) }
 {
-    if is_plain_numeral(digits) { value_of(digits) } else { None }
+    if is_plain_numeral(digits) {
+        value_of(digits)
+    } else {
+        None
+    }
 }
 
 pub(crate) fn label_text(alloc: Global, label: &[u8]) -> Result<Text, Memory>

@@ -6,8 +6,7 @@ ghost use Rattle.rv_machine.specs.Exec.{Run, start};
 ghost use Rattle.image_run.specs.Leaves.{IsAt, FaultsAre, Leaves, TurnFaultsAre, TurnLeaves, TakeLeaves, GiveLeaves};
 
 use jf_outside::{Put, Sink, Source, Taken};
-use rv_machine::{Event, TrapKind};
-use rv_machine::Machine;
+use rv_machine::{Event, Machine, TrapKind};
 
 /// Why a run is over.
 #[derive(Clone, Copy, Debug, PartialEq, Eq)]

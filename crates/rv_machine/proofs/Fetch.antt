@@ -7,7 +7,7 @@ use Rattle.std.proofs.lemmas.List.{get_or_append_left, get_or_push}
 use Rattle.rv_isa.specs.declared.insn.Insn.{Insn}
 use Rattle.rv_isa.specs.Decode.{decode_of}
 use Rattle.rv_isa.specs.Encode.{IsEncodable}
-use Rattle.rv_isa.proofs.Kept.{decoded}
+use Rattle.rv_isa.proofs.Laws.{decode-encode}
 use Rattle.rv_machine.specs.declared.event.TrapKind.TheVariants as trap
 use Rattle.rv_machine.specs.State.{State}
 use Rattle.rv_machine.specs.Memory.{number_at}
@@ -32,7 +32,7 @@ get-insns (suc n) k memory d low =
 
 -- the instruction of a word can be encoded
 pub encodable : (w : ℕ) → w < 2 ^ 32 → IfSome (decode_of w) IsEncodable
-encodable w fits = at_option (decode_of w) (λ i is. ((decoded w fits).kept i is).encodable)
+encodable w fits = at_option (decode_of w) (λ i is. (decode-encode w i fits is).encodable)
 
 -- one more
 pub AreEncodable-push : (insns : List (Option Insn)) (o : Option Insn) → AreEncodable insns → IfSome o IsEncodable → AreEncodable (insns ++ o ∷ [])

@@ -5,7 +5,7 @@ use Rattle.std.proofs.lemmas.Bool.{cases_lt, le-leb, eq-eqb, and_from}
 use Rattle.rv_isa.specs.declared.insn.Insn.{Insn}
 use Rattle.rv_isa.specs.Decode.{decode_of}
 use Rattle.rv_isa.specs.Encode.{encode_of, IsEncodable}
-use Rattle.rv_isa.proofs.Forth.{encode-decode}
+use Rattle.rv_isa.proofs.Laws.{encode-decode}
 use Rattle.rv_machine.specs.declared.event.Mode.TheVariants as mode
 use Rattle.rv_machine.specs.declared.event.Event.{Event}
 use Rattle.rv_machine.specs.declared.event.TrapKind.TheVariants as trap

@@ -1,4 +1,4 @@
--- Operations on registers. A register is its 64 bits, a number below 2 ^ 64 (the RISC-V unprivileged specification, 2.4 and 7).
+-- Operations on registers. A register is its 64 bits, a number below 2 ^ 64 (the RISC-V unprivileged specification, 2.4, 5.2 and 7).
 use Rattle.std.specs.Prelude.{ℕ, ℤ, pos, ◌+◌, ◌-◌, ◌*◌, ◌/◌, ◌%◌, ◌^◌, ◌*ℤ◌, ◌==◌, ◌&&◌, nat_lt, int_lt, int_div, int_rem, if◌then◌else◌}
 use Rattle.std.specs.Int.{Width, w32, w64, w128, cast_signed, cast_unsigned, int_shr}
 
@@ -46,7 +46,7 @@ shifted_right a n = a / 2 ^ (n % 64)
 abbrev pub shifted_right_signed : ℕ → ℕ → ℕ
 shifted_right_signed a n = cast_unsigned w64 (int_shr (signed a) (n % 64))
 
--- 4.2: ADDIW, ADDW, SUBW and the shifts of words work on the low 32 bits, and extend their result with its sign; shifts are by the low 5 bits of the amount
+-- 5.2: ADDIW, ADDW, SUBW and the shifts of words work on the low 32 bits, and extend their result with its sign; shifts are by the low 5 bits of the amount
 abbrev pub word_sum : ℕ → ℕ → ℕ
 word_sum a b = extended_word (a + b)
 

@@ -1,4 +1,4 @@
--- Loads and stores (the RISC-V unprivileged specification, 2.6): little-endian, at addresses that are multiples of their size.
+-- Loads and stores (the RISC-V unprivileged specification, 2.6 and 5.3): little-endian, at addresses that are multiples of their size.
 -- A place in memory is the address less 65,536.
 use Rattle.std.specs.Prelude.{ℕ, ◌+◌, ◌-◌, ◌%◌, ◌==◌, nat_le, Bool, true, false, ◌&&◌, if◌then◌else◌, List, ◌++◌, length, take, drop, Result, Ok, Err}
 use Rattle.std.specs.Int.{Width, byte_len}

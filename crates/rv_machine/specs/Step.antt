@@ -1,4 +1,4 @@
--- One instruction of the machine (the RISC-V unprivileged specification, chapters 2, 4 and 7), and the calls that its environment has.
+-- One instruction of the machine (the RISC-V unprivileged specification, chapters 2, 5 and 7), and the calls that its environment has.
 use Rattle.std.specs.Prelude.{ℕ, ◌+◌, ◌-◌, ◌*◌, ◌/◌, ◌%◌, ◌^◌, ◌==◌, nat_le, nat_lt, int_lt, Bool, true, false, not, ◌&&◌, if◌then◌else◌, bit_and, bit_or, bit_xor, Option, Some, None, Result, Ok, Err}
 use Rattle.std.specs.Option.{ok_or}
 use Rattle.std.specs.Int.{Width, w8, w16, w32, w64, byte_len, cast_signed}
@@ -43,7 +43,7 @@ branch s taken imm =
     else trapped s trap.Align)
     else go_on s event.Ran
 
--- 2.6: bytes of the memory into a register
+-- 2.6 and 5.3: bytes of the memory into a register
 abbrev pub load_at : State → Width → Bool → ℕ → Result ℕ TrapKind → State × Event
 load_at s w is_signed rd (Ok at) = set_on s rd (value_at s.memory w is_signed at)
 load_at s w is_signed rd (Err kind) = trapped s kind
@@ -51,7 +51,7 @@ load_at s w is_signed rd (Err kind) = trapped s kind
 abbrev pub load : State → Width → Bool → ℕ → ℕ → State × Event
 load s w is_signed rd address = load_at s w is_signed rd (place_of s.memory 0 (byte_len w) address)
 
--- 2.6: the low bytes of a value into the memory behind the code
+-- 2.6 and 5.3: the low bytes of a value into the memory behind the code
 abbrev pub store_at : State → Width → ℕ → Result ℕ TrapKind → State × Event
 store_at s w value (Ok at) =
     (record s { memory = stored s.memory at (byte_len w) value; pc = next_pc s }, event.Ran)
@@ -106,7 +106,7 @@ act (insn.Andi rd rs1 imm) s = set_on s rd (bit_and (register s rs1) imm)
 act (insn.Slli rd rs1 imm) s = set_on s rd (shifted_left (register s rs1) imm)
 act (insn.Srli rd rs1 imm) s = set_on s rd (shifted_right (register s rs1) imm)
 act (insn.Srai rd rs1 imm) s = set_on s rd (shifted_right_signed (register s rs1) imm)
--- 4.2.1: the same on words
+-- 5.2.1: the same on words
 act (insn.Addiw rd rs1 imm) s = set_on s rd (word_sum (register s rs1) imm)
 act (insn.Slliw rd rs1 imm) s = set_on s rd (word_shifted_left (register s rs1) imm)
 act (insn.Srliw rd rs1 imm) s = set_on s rd (word_shifted_right (register s rs1) imm)
@@ -131,7 +131,7 @@ act (insn.Div rd rs1 rs2) s = set_on s rd (quotient_signed (register s rs1) (reg
 act (insn.Divu rd rs1 rs2) s = set_on s rd (quotient_unsigned (register s rs1) (register s rs2))
 act (insn.Rem rd rs1 rs2) s = set_on s rd (remainder_signed (register s rs1) (register s rs2))
 act (insn.Remu rd rs1 rs2) s = set_on s rd (remainder_unsigned (register s rs1) (register s rs2))
--- 4.2.2 and 7: the same on words
+-- 5.2.2 and 7: the same on words
 act (insn.Addw rd rs1 rs2) s = set_on s rd (word_sum (register s rs1) (register s rs2))
 act (insn.Subw rd rs1 rs2) s = set_on s rd (word_difference (register s rs1) (register s rs2))
 act (insn.Sllw rd rs1 rs2) s = set_on s rd (word_shifted_left (register s rs1) (register s rs2))

@@ -1,4 +1,4 @@
-use Rattle.std.proofs.Common.{arith, length, List, ℕ, ◌≡◌, []}
+use Rattle.std.proofs.Common.{arith}
 use Rattle.first_form.specs.Lines.{text_lines}
 use Rattle.first_form.proofs.CTexts.{on_lines}
 use Rattle.first_form.proofs.Fronts.{is_nothing}

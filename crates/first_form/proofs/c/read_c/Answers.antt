@@ -7,5 +7,5 @@ returns-in_default c = no_function c.args.bytes.now c.args.label.now c.in_defaul
 
 pub returns-in_default-2 : goal.returns-in_default-2
 returns-in_default-2 c = λ puts h.
-  let none = rw c.in_default-2.is at c.in_ok-puts.ensures in
-  none puts h.are_puts (puts_behind c.args.bytes.now c.args.label.now c.in-Some.body.now (text_lines c.in-Some.rest.now) puts c.in-Some.ensures h)
+    let none = rw c.in_default-2.is at c.in_ok-puts.ensures in
+    none puts h.are_puts (puts_behind c.args.bytes.now c.args.label.now c.in-Some.body.now (text_lines c.in-Some.rest.now) puts c.in-Some.ensures h)

@@ -17,11 +17,11 @@ returns-in_err-text-2 c = rw c.from_residual-in_err-text-2.ensures (λ label res
 pub returns-in_err-text-3 : goal.returns-in_err-text-3
 unfolding interface_lines
 returns-in_err-text-3 c =
-  rw c.from_residual-in_err-text-3.ensures
+    rw c.from_residual-in_err-text-3.ensures
     (λ label rest e. c.in_err-text-3.ensures _ (tail_of c.in_ok-text-2.ensures (tail_of c.in_ok-text.ensures (tail_of c.in_ok-line.ensures.lines e))))
 
 pub returns-in_err-text-4 : goal.returns-in_err-text-4
 unfolding interface_lines
 returns-in_err-text-4 c =
-  rw c.from_residual-in_err-text-4.ensures
+    rw c.from_residual-in_err-text-4.ensures
     (λ label rest e. c.in_err-text-4.ensures _ (tail_of c.in_ok-text-3.ensures (tail_of c.in_ok-text-2.ensures (tail_of c.in_ok-text.ensures (tail_of c.in_ok-line.ensures.lines e)))))

@@ -13,4 +13,4 @@ returns-in_err-text-2 c = rw c.from_residual-in_err-text-2.ensures (λ name rest
 pub returns-in_err-text-3 : goal.returns-in_err-text-3
 unfolding program_lines
 returns-in_err-text-3 c =
-  rw c.from_residual-in_err-text-3.ensures (λ name rest e. c.in_err-text-3.ensures _ (tail_of c.in_ok-text-2.ensures (tail_of c.in_ok-text.ensures (tail_of c.in_ok-line.ensures.lines e))))
+    rw c.from_residual-in_err-text-3.ensures (λ name rest e. c.in_err-text-3.ensures _ (tail_of c.in_ok-text-2.ensures (tail_of c.in_ok-text.ensures (tail_of c.in_ok-line.ensures.lines e))))

@@ -1,4 +1,3 @@
-use Rattle.std.proofs.Common.{◌∙◌, refl}
 use Rattle.first_form.specs.Words.{reserved_words, keywords, library_functions}
 use Rattle.first_form.proofs.Members.{found_exactly}
 use Rattle.first_form.proofs.words.is_reserved.Goals as goal

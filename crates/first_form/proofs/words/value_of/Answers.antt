@@ -1,4 +1,3 @@
-use Rattle.std.proofs.Common.{◌∙◌, refl, arith}
 use Rattle.first_form.proofs.Numerals.{plain_utf8, refused}
 use Rattle.first_form.proofs.words.value_of.Goals as goal
 
