@@ -1,0 +1,6 @@
+//! Storage as both languages see it: objects of cells, loans of other bytes, pointers, and what an access may do.
+#![tactic(auto)]
+
+mod cell;
+
+pub use cell::{Cell, Did, Kind, Pointer, Spot, View};
