@@ -5,3 +5,7 @@ pub mod Access
 pub mod Ends
 pub mod Loans
 pub mod Pointers
+pub mod Laws
+pub mod Held
+pub mod Model
+pub mod Answers

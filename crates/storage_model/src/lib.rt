@@ -2,5 +2,11 @@
 #![tactic(auto)]
 
 mod cell;
+mod held;
+mod new;
+mod pointer;
+mod storage;
+mod views;
 
 pub use cell::{Cell, Did, Kind, Pointer, Spot, View};
+pub use storage::Storage;
