@@ -1,1 +1,4 @@
 pub mod Nth
+pub mod Chains
+pub mod Tests
+pub mod Grounds

@@ -71,9 +71,13 @@ passes s p l k = list_any (same_place (at (Loan l) k)) (chain_of s p)
 abbrev pub covers : Storage → ℕ → ℕ → Place → Bool
 covers s l k p = same_place (home_of s (at (Loan l) k)) (home_of s p)
 
+-- loan l is open, and k is one of its bytes
+abbrev pub is_open_byte : Storage → ℕ → ℕ → Bool
+is_open_byte s l k = (s.loan l).is_open && ltb k (s.loan l).bytes
+
 -- byte k of the open loan l is over the home byte of p, and isn't in its chain
 abbrev pub is_beside : Storage → Place → ℕ → ℕ → Bool
-is_beside s p l k = (s.loan l).is_open && (covers s l k p && not (passes s p l k))
+is_beside s p l k = is_open_byte s l k && (covers s l k p && not (passes s p l k))
 
 -- no byte of an open loan is beside p and so marked
 abbrev pub none_beside : Storage → (ℕ → ℕ → Bool) → Place → Bool
