@@ -89,3 +89,8 @@ written_marks s l k = (s.loan l).written k
 
 abbrev pub any_mark : ℕ → ℕ → Bool
 any_mark l k = true
+
+-- those against a read, or else those against a write
+abbrev pub marks_against : Storage → Bool → ℕ → ℕ → Bool
+marks_against s true = written_marks s
+marks_against s false = any_mark

@@ -1,7 +1,9 @@
 //! Storage as both languages see it: objects of cells, loans of other bytes, pointers, and what an access may do.
 #![tactic(auto)]
 
+mod beside;
 mod cell;
+mod chain;
 mod held;
 mod new;
 mod pointer;
