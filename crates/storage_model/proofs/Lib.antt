@@ -4,3 +4,4 @@ pub mod Tests
 pub mod Grounds
 pub mod Steps
 pub mod Listed
+pub mod Points

@@ -105,3 +105,8 @@ by_offset within below (negsuc k) = below
 
 abbrev pub peeked : Storage → Spot → Option Cell
 peeked s p = by_offset (λ k. peek_at s p.view k) None p.offset
+
+-- the offset as a number from 0 on
+abbrev pub offset_of : ℤ → Option ℕ
+offset_of (pos k) = Some k
+offset_of (negsuc k) = None

@@ -9,3 +9,4 @@ pub mod Laws
 pub mod Held
 pub mod Model
 pub mod Answers
+pub mod Reach

@@ -1,11 +1,13 @@
 //! Storage as both languages see it: objects of cells, loans of other bytes, pointers, and what an access may do.
 #![tactic(auto)]
 
+mod access;
 mod beside;
 mod cell;
 mod chain;
 mod held;
 mod new;
+mod peek;
 mod pointer;
 mod storage;
 mod views;

@@ -1,9 +1,10 @@
 ghost use Rattle.std.specs.Prelude.{◌≡◌};
 ghost use Rattle.storage_model.specs.Chain.{same_view};
-ghost use Rattle.storage_model.specs.Pointers.{in_view, points_live, points_within, is_null, moved_by, equality, distance_of, object_under};
+ghost use Rattle.storage_model.specs.Pointers.{in_view, points_live, points_within, is_null, moved_by, equality, distance_of, object_under, may_share};
+ghost use Rattle.storage_model.specs.Storage.{IsLive, by_view};
 ghost use Rattle.storage_model.specs.Model.{model};
 
-use crate::cell::{Did, Pointer, View};
+use crate::cell::{Did, Place, Pointer, View};
 use crate::storage::Storage;
 use jf_base::Tag;
 
@@ -27,6 +28,28 @@ impl View {
             (View::Loan(_), View::Home(_)) => false,
             (View::Loan(l), View::Loan(m)) => l == m,
         }
+    }
+}
+
+impl View {
+    /// The number of the object or loan.
+    fn number(self) -> u32
+        ensures { result ≡ by_view (λ o. o) (λ m. m) self }
+    {
+        match self {
+            View::Home(o) => o,
+            View::Loan(l) => l,
+        }
+    }
+}
+
+/// Whether two views over these objects may be of one object.
+fn may_share(a: Option<u32>, b: Option<u32>) -> bool
+    ensures { result ≡ may_share a b }
+{
+    match (a, b) {
+        (Some(o), Some(p)) => o == p,
+        _ => true,
     }
 }
 
@@ -121,6 +144,52 @@ impl Storage {
                 }
             }
             _ => Did::Violation(V01),
+        }
+    }
+
+    /// The number of the object under a live view; a loan without bytes is over none.
+    fn object_under(&self, view: View) -> Option<u32>
+        requires { IsLive (model self.now) view }
+        ensures { result ≡ object_under (model self.now) view }
+    {
+        match view {
+            View::Home(o) => Some(o),
+            View::Loan(_) => {
+                if self.size_of(view) == 0 {
+                    None
+                } else {
+                    Some(self.walk(Place { view, offset: 0 }, 1).home.view.number())
+                }
+            }
+        }
+    }
+
+    /// Whether two pointers are equal (ISO/IEC 9899:2011 6.5.9 paragraph 6).
+    /// V02 of what points into no live view, V01 outside the view, V11 of different views that may be of one object.
+    pub fn equal(&self, a: Pointer, b: Pointer) -> Did<bool>
+        ensures { result ≡ equality (model self.now) a b }
+    {
+        if !(self.points_live(a) && self.points_live(b)) {
+            return Did::Violation(V02);
+        }
+        if !(self.points_within(a) && self.points_within(b)) {
+            return Did::Violation(V01);
+        }
+        match (a, b) {
+            (Pointer::Null, Pointer::Null) => Did::Done(true),
+            (Pointer::Proc { number: n, proto: _ }, Pointer::Proc { number: m, proto: _ }) => {
+                Did::Done(n == m)
+            }
+            (Pointer::At { view: v, offset: j }, Pointer::At { view: w, offset: k }) => {
+                if v.is(w) {
+                    Did::Done(j == k)
+                } else if may_share(self.object_under(v), self.object_under(w)) {
+                    Did::Violation(V11)
+                } else {
+                    Did::Done(false)
+                }
+            }
+            _ => Did::Done(false),
         }
     }
 }
