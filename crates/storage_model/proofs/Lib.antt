@@ -5,3 +5,5 @@ pub mod Grounds
 pub mod Steps
 pub mod Listed
 pub mod Points
+pub mod Updates
+pub mod Keeps

@@ -10,3 +10,4 @@ pub mod Held
 pub mod Model
 pub mod Answers
 pub mod Reach
+pub mod Marks

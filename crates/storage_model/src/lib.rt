@@ -6,6 +6,7 @@ mod beside;
 mod cell;
 mod chain;
 mod held;
+mod marks;
 mod new;
 mod peek;
 mod pointer;
