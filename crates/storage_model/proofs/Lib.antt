@@ -7,3 +7,4 @@ pub mod Listed
 pub mod Points
 pub mod Updates
 pub mod Keeps
+pub mod Writes

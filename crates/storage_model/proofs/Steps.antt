@@ -9,12 +9,12 @@ use Rattle.storage_model.specs.declared.cell.Place.{Place}
 use Rattle.storage_model.specs.declared.held.HeldLoan.{HeldLoan}
 use Rattle.storage_model.specs.declared.held.LoanByte.{LoanByte}
 use Rattle.storage_model.specs.declared.storage.Storage.{Storage}
-use Rattle.storage_model.specs.Storage.{at, places, Good}
+use Rattle.storage_model.specs.Storage.{at, places, is_memory, Good}
 use Rattle.storage_model.specs.Chain.{chain_of, home_of}
 use Rattle.storage_model.specs.Held.{no_byte}
 use Rattle.storage_model.specs.Model.{model}
 use Rattle.storage_model.proofs.Nth.{nth_loan_at}
-use Rattle.storage_model.proofs.Grounds.{bound, within_of, good_below, chain_loan, home_loan}
+use Rattle.storage_model.proofs.Grounds.{bound, open_of, within_of, good_below, chain_loan, home_loan}
 
 -- how many loans may still stand under a byte of this view
 abbrev pub depth : View → ℕ
@@ -40,6 +40,8 @@ or_step false b c = refl
 
 -- from byte p of loan l, which is held as b, to its place
 pub record Stepped (s : Storage) (p : Place) (l : ℕ) (x : HeldLoan) (b : LoanByte) : Type 0 where
+  pub next : places (model s) l p.offset ≡ b.place
+  pub memory : is_memory (model s) b.place ≡ true
   pub good : Good (model s) b.place
   pub less : depth b.place.view < depth p.view
   pub chain : chain_of (model s) p ≡ p ∷ chain_of (model s) b.place
@@ -62,6 +64,8 @@ module _ (s : Storage) (p : Place) (good : Good (model s) p) (l : ℕ) (at_l : p
         let byte : get_or x.bytes.items p.offset no_byte ≡ b = get_or_any x.bytes.items p.offset no_byte b in_bytes ∙ sym e in
         let next : places (model s) l p.offset ≡ b.place = ap (λ y. y.place p.offset) n ∙ ap (λ y. y.place) byte in
         record {
+          next = next;
+          memory = subst (λ q. is_memory (model s) q ≡ true) next (s.held.sound.plain l p.offset (open_of (model s) s.held.sound l good at_l) (within_of (model s) s.held.sound l good at_l));
           good = subst (Good (model s)) next (good_below (model s) s.held.sound l good at_l);
           less = subst (λ v. depth b.place.view < depth v) (sym at_l)
               (depth_below b.place.view l (λ m f. s.held.sound.older l p.offset m (ap (λ y. y.view) next ∙ f)));

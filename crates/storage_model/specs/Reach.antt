@@ -1,13 +1,16 @@
 -- What the code finds of a pointer before it looks at single bytes.
-use Rattle.std.specs.Prelude.{ℕ, ◌+◌, ◌<◌, Option, Some, None}
+use Rattle.std.specs.Prelude.{◌≡◌, pos, ℕ, ◌+◌, ◌<◌, Option, Some, None}
 use Rattle.storage_model.specs.declared.cell.View.{View}
 use Rattle.storage_model.specs.declared.access.Reach.{Reach}
 use Rattle.storage_model.specs.declared.access.Reach.TheVariants.{Nothing, From, Broken}
+use Rattle.storage_model.specs.declared.cell.Pointer.{Pointer}
+use Rattle.storage_model.specs.declared.cell.Pointer.TheVariants.{At}
 use Rattle.jf_base.specs.declared.tag.Tag.{Tag}
 use Rattle.storage_model.specs.Storage.{Storage, at, Good}
 
--- n bytes of a view from byte k on are bytes of a live view
+-- n bytes of a view, at least one, from byte k on are bytes of a live view
 pub record GoodBytes (s : Storage) (v : View) (k n : ℕ) : Type 0 where
+  pub some : 0 < n
   pub byte : (x : ℕ) → x < n → Good s (at v (k + x))
 
 -- the answer, if these are the further points
@@ -21,3 +24,9 @@ abbrev pub Reaches : Storage → Reach → ℕ → Type 0
 Reaches s Nothing n = Unit {0}
 Reaches s (From p) n = GoodBytes s p.view p.offset n
 Reaches s (Broken t) n = Unit {0}
+
+-- where they begin
+abbrev pub StartsAt : Reach → Pointer → ℕ → Type 0
+StartsAt Nothing p n = n ≡ 0
+StartsAt (From q) p n = p ≡ At q.view (pos q.offset)
+StartsAt (Broken t) p n = Unit {0}

@@ -1,11 +1,11 @@
-ghost use Rattle.std.specs.Prelude.{◌≡◌, ℕ, ◌+◌, ◌<◌, Option};
+ghost use Rattle.std.specs.Prelude.{◌≡◌, ℕ, ◌+◌, ◌<◌, Option, IfNone, true};
 ghost use Rattle.std.specs.List.{list_all};
 ghost use Rattle.jf_base.specs.declared.tag.Tag.{Tag as TagOf};
 ghost use Rattle.storage_model.specs.declared.cell.View.{View as ViewOf};
-ghost use Rattle.storage_model.specs.Storage.{at};
+ghost use Rattle.storage_model.specs.Storage.{at, is_memory};
 ghost use Rattle.storage_model.specs.Chain.{each_below, each_byte, may_write, not_read, none_beside, marks_against};
 ghost use Rattle.storage_model.specs.Access.{check_access, offset_of, check_read, check_write, read_points, write_points};
-ghost use Rattle.storage_model.specs.Reach.{GoodBytes, broken_behind, Reaches};
+ghost use Rattle.storage_model.specs.Reach.{GoodBytes, broken_behind, Reaches, StartsAt};
 ghost use Rattle.storage_model.specs.Model.{model};
 
 use crate::cell::{Place, Pointer, View};
@@ -44,6 +44,7 @@ impl Storage {
     pub(crate) fn reach(&self, p: Pointer, n: u64) -> Reach
         ensures answer { (points : ViewOf → ℕ → ℕ → Option TagOf) → check_access (model self.now) points p n ≡ broken_behind result points n }
         ensures bytes { Reaches (model self.now) result n }
+        ensures start { StartsAt result p n }
     {
         let (view, offset) = match p {
             Pointer::Null => return Reach::Broken(V04),
@@ -56,6 +57,7 @@ impl Storage {
     fn reach_in(&self, view: View, offset: i64, n: u64) -> Reach
         ensures answer { (points : ViewOf → ℕ → ℕ → Option TagOf) → check_access (model self.now) points (Pointer.At view offset) n ≡ broken_behind result points n }
         ensures bytes { Reaches (model self.now) result n }
+        ensures start { StartsAt result (Pointer.At view offset) n }
     {
         if !self.is_live(view) {
             return Reach::Broken(V02);
@@ -129,9 +131,8 @@ impl Storage {
     }
 
     /// The further points of a read of bytes of a live view.
-    fn broken_reading(&self, from: Place, n: u64, align: u64) -> Option<Tag>
-        requires some { 0 < n }
-        requires bytes { GoodBytes (model self.now) from.view from.offset n }
+    pub(crate) fn broken_reading(&self, from: Place, n: u64, align: u64) -> Option<Tag>
+        requires { GoodBytes (model self.now) from.view from.offset n }
         ensures { result ≡ read_points (model self.now) align from.view from.offset n }
     {
         if !self.walk(from, align).aligned {
@@ -147,10 +148,10 @@ impl Storage {
     }
 
     /// The further points of a write to bytes of a live view.
-    fn broken_writing(&self, from: Place, n: u64, align: u64) -> Option<Tag>
-        requires some { 0 < n }
-        requires bytes { GoodBytes (model self.now) from.view from.offset n }
-        ensures { result ≡ write_points (model self.now) align from.view from.offset n }
+    pub(crate) fn broken_writing(&self, from: Place, n: u64, align: u64) -> Option<Tag>
+        requires { GoodBytes (model self.now) from.view from.offset n }
+        ensures answer { result ≡ write_points (model self.now) align from.view from.offset n }
+        ensures memory { IfNone result (is_memory (model self.now) from ≡ true) }
     {
         if !self.walk(from, align).aligned {
             return Some(V05);

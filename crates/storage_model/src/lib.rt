@@ -12,6 +12,7 @@ mod peek;
 mod pointer;
 mod storage;
 mod views;
+mod write;
 
 pub use cell::{Cell, Did, Kind, Pointer, Spot, View};
 pub use storage::Storage;

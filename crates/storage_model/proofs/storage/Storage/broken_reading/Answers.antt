@@ -10,9 +10,9 @@ returns-then-not-is_memory c = sym (read_described (model c.args.self.now) c.arg
     (sym c.walk.ensures.aligned ∙ not-false _ c.if-not-walk.false) (sym c.is_memory.ensures ∙ c.if-not-is_memory.true))
 
 pub returns-then-not-all_alone : goal.returns-then-not-all_alone
-returns-then-not-all_alone c = sym (read_rest (model c.args.self.now) c.args.self.now.held.sound c.args.align c.args.from.view c.args.from.offset c.args.n false c.requires.bytes
+returns-then-not-all_alone c = sym (read_rest (model c.args.self.now) c.args.self.now.held.sound c.args.align c.args.from.view c.args.from.offset c.args.n false c.requires
     (sym c.walk.ensures.aligned ∙ not-false _ c.if-not-walk.false) (sym c.is_memory.ensures ∙ c.if-not-is_memory.false) (sym c.all_alone.ensures ∙ c.if-not-all_alone.true))
 
 pub returns : goal.returns
-returns c = sym (read_rest (model c.args.self.now) c.args.self.now.held.sound c.args.align c.args.from.view c.args.from.offset c.args.n true c.requires.bytes
+returns c = sym (read_rest (model c.args.self.now) c.args.self.now.held.sound c.args.align c.args.from.view c.args.from.offset c.args.n true c.requires
     (sym c.walk.ensures.aligned ∙ not-false _ c.if-not-walk.false) (sym c.is_memory.ensures ∙ c.if-not-is_memory.false) (sym c.all_alone.ensures ∙ c.if-not-all_alone.false))
