@@ -8,3 +8,4 @@ pub mod Points
 pub mod Updates
 pub mod Keeps
 pub mod Writes
+pub mod Reading

@@ -10,6 +10,7 @@ mod marks;
 mod new;
 mod peek;
 mod pointer;
+mod read;
 mod storage;
 mod views;
 mod write;
