@@ -81,7 +81,7 @@ module _ (objects : List HeldObject) (loans : List HeldLoan) (covers : List (Vec
             (λ ne. held.sized p y (omega (arith, hp, lens)) (isy ∙ got_else objects o x' y p ne))
             (nat_or p o);
         small = h.small;
-        parallel = held.parallel ∙ sym lens;
+        parallel = (let p = held.parallel in omega (arith, p, lens));
         listed = h.listed;
       }
     where
@@ -110,3 +110,6 @@ cell_there objects o k x h mem is sized =
     let m : has_cells x.kind ≡ true = sym (ap (λ y. has_cells y.kind) n) ∙ mem in
     let e = sized ∙ cond-true (has_cells x.kind) x.size 0 m in
     let f = ap (λ y. y.size) n in omega (arith, h, e, f)
+
+pub object_alive : (objects : List HeldObject) (o : ℕ) → (nth_object objects o).alive ≡ true → o < length objects
+object_alive objects o h = ⊎_elim (λ lt. lt) (λ le. let e = ap (λ y. y.alive) (nth_object_past objects o le) in absurd (cc)) (cases_lt o (length objects))

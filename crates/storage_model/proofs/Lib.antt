@@ -9,3 +9,5 @@ pub mod Updates
 pub mod Keeps
 pub mod Writes
 pub mod Reading
+pub mod Making
+pub mod Ending

@@ -1,5 +1,5 @@
 -- The storage that the vectors hold.
-use Rattle.std.specs.Prelude.{◌≡◌, ℕ, zero, suc, ◌<◌, ◌^◌, Bool, true, false, ◌==◌, ◌&&◌, if◌then◌else◌, List, [], ◌∷◌, length, get_or}
+use Rattle.std.specs.Prelude.{◌≡◌, ℕ, zero, suc, ◌<◌, ◌≤◌, ◌^◌, Bool, true, false, ◌==◌, ◌&&◌, if◌then◌else◌, List, [], ◌∷◌, length, get_or}
 use Rattle.std.specs.List.{list_any}
 use Rattle.std.specs.Global.{Vec}
 use Rattle.storage_model.specs.declared.cell.View.{View}
@@ -73,7 +73,8 @@ pub record IsHeld (objects : List HeldObject) (loans : List HeldLoan) (covers : 
   pub sized : (o : ℕ) (x : HeldObject) → o < length objects → x ≡ get_or objects o x → length x.cells.items ≡ cell_count x
   -- sizes are those that offsets can have
   pub small : (v : View) → size_of (facts objects loans) v < 2 ^ 63
-  pub parallel : length covers ≡ length objects
+  -- each object has a table of such lists
+  pub parallel : length objects ≤ length covers
   -- each byte of an open loan is in the list of the home byte under it
   pub listed : (l k : ℕ) → (nth_loan loans l).is_open ≡ true → k < (nth_loan loans l).bytes
       → in_stack l k (stack_at covers (home_of (facts objects loans) (at (Loan l) k))) ≡ true

@@ -5,6 +5,7 @@ mod access;
 mod beside;
 mod cell;
 mod chain;
+mod ends;
 mod held;
 mod marks;
 mod new;
