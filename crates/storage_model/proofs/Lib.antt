@@ -11,3 +11,4 @@ pub mod Writes
 pub mod Reading
 pub mod Making
 pub mod Ending
+pub mod Stacks

@@ -11,3 +11,4 @@ pub mod Model
 pub mod Answers
 pub mod Reach
 pub mod Marks
+pub mod Listings

@@ -7,6 +7,7 @@ mod cell;
 mod chain;
 mod ends;
 mod held;
+mod listing;
 mod marks;
 mod new;
 mod peek;

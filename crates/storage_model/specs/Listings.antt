@@ -1,0 +1,35 @@
+-- The lists of loans' bytes at home bytes, before and after a change.
+use Rattle.std.specs.Prelude.{◌≡◌, ◌≢◌, ℕ, ◌<◌, true, false, List, length, get_or}
+use Rattle.std.specs.Global.{Vec}
+use Rattle.storage_model.specs.declared.cell.Place.{Place}
+use Rattle.storage_model.specs.declared.held.Cover.{Cover}
+use Rattle.storage_model.specs.declared.held.LoanByte.{LoanByte}
+use Rattle.storage_model.specs.Storage.{Storage, Good, is_memory}
+use Rattle.storage_model.specs.Chain.{home_of}
+use Rattle.storage_model.specs.Held.{no_byte, in_stack, nth_stack, stack_at}
+
+-- what was listed in a table is listed still
+pub record KeepsTable (old new : List (Vec Cover)) : Type 0 where
+  pub kept : (i l k : ℕ) → in_stack l k (nth_stack old i) ≡ true → in_stack l k (nth_stack new i) ≡ true
+
+-- what was listed of other loans is
+pub record KeepsOthersInTable (old new : List (Vec Cover)) (loan : ℕ) : Type 0 where
+  pub kept : (i l k : ℕ) → l ≢ loan → in_stack l k (nth_stack old i) ≡ true → in_stack l k (nth_stack new i) ≡ true
+
+-- the same of all tables
+pub record KeepsStacks (old new : List (Vec (Vec Cover))) : Type 0 where
+  pub longer : length new ≡ length old
+  pub kept : (h : Place) (l k : ℕ) → in_stack l k (stack_at old h) ≡ true → in_stack l k (stack_at new h) ≡ true
+
+pub record KeepsOthers (old new : List (Vec (Vec Cover))) (loan : ℕ) : Type 0 where
+  pub longer : length new ≡ length old
+  pub kept : (h : Place) (l k : ℕ) → l ≢ loan → in_stack l k (stack_at old h) ≡ true → in_stack l k (stack_at new h) ≡ true
+
+-- the places of a loan are bytes of live views, and none is a descriptor's
+pub record PlacesGood (s : Storage) (bytes : List LoanByte) : Type 0 where
+  pub good : (k : ℕ) → k < length bytes → Good s (get_or bytes k no_byte).place
+  pub plain : (k : ℕ) → k < length bytes → is_memory s (get_or bytes k no_byte).place ≡ true
+
+-- the first n bytes of a loan are listed at the home bytes under their places
+pub record PlacesListed (s : Storage) (covers : List (Vec (Vec Cover))) (loan : ℕ) (bytes : List LoanByte) (n : ℕ) : Type 0 where
+  pub listed : (k : ℕ) → k < n → in_stack loan k (stack_at covers (home_of s (get_or bytes k no_byte).place)) ≡ true
