@@ -7,6 +7,7 @@ use Rattle.std.proofs.lemmas.Bool.{cases_lt, cond-true}
 use Rattle.storage_model.proofs.Nth.{nth_loan_at, nth_loan_past, nth_object_at, nth_object_past}
 use Rattle.storage_model.specs.declared.cell.View.{View}
 use Rattle.storage_model.specs.declared.cell.View.TheVariants.{Home, Loan}
+use Rattle.storage_model.specs.declared.cell.Place.{Place}
 use Rattle.storage_model.specs.declared.cell.Cell.{Cell}
 use Rattle.storage_model.specs.declared.held.HeldObject.{HeldObject}
 use Rattle.storage_model.specs.declared.held.HeldLoan.{HeldLoan}
@@ -113,3 +114,15 @@ cell_there objects o k x h mem is sized =
 
 pub object_alive : (objects : List HeldObject) (o : ℕ) → (nth_object objects o).alive ≡ true → o < length objects
 object_alive objects o h = ⊎_elim (λ lt. lt) (λ le. let e = ap (λ y. y.alive) (nth_object_past objects o le) in absurd (cc)) (cases_lt o (length objects))
+
+-- other lists, which have what was listed of each open loan
+pub held_covers : (objects : List HeldObject) (loans : List HeldLoan) (covers covers' : List (Vec (Vec Cover))) → length covers' ≡ length covers
+    → ((l k : ℕ) (h : Place) → (nth_loan loans l).is_open ≡ true → in_stack l k (stack_at covers h) ≡ true → in_stack l k (stack_at covers' h) ≡ true)
+    → IsHeld objects loans covers → IsHeld objects loans covers'
+held_covers objects loans covers covers' len keep held = record {
+  sound = held.sound;
+  sized = held.sized;
+  small = held.small;
+  parallel = (let p = held.parallel in omega (arith, p, len));
+  listed = λ l k o b. keep l k (home_of (facts objects loans) (at (Loan l) k)) o (held.listed l k o b);
+}

@@ -1,6 +1,6 @@
 -- Lists of loans' bytes that grow and shrink at their ends.
 use Rattle.std.proofs.Common.{ℕ, zero, suc, ◌+◌, ◌≡◌, ◌≤◌, ◌<◌, refl, sym, ◌∙◌, ap, subst, arith, ⊎_elim, List, [], ◌∷◌, ◌++◌, length, get_or, set}
-use Rattle.std.specs.Prelude.{◌≢◌, Bool, true, false, ◌==◌, ◌&&◌, ◌||◌, ◌-◌, Option, Some, option_to_list}
+use Rattle.std.specs.Prelude.{◌≢◌, Bool, true, false, ◌==◌, ◌&&◌, ◌||◌, ◌-◌, Option, Some, option_to_list, Result, Ok, Err, OnOk}
 use Rattle.std.specs.Global.{Vec}
 use Rattle.std.proofs.lemmas.Bool.{and_parts, and_from, or_cases, or_left, or_right, eqb-true, eq-eqb}
 use Rattle.std.proofs.lemmas.List.{length-set}
@@ -97,3 +97,22 @@ pub last_dropped : (xs ys : List Cover) (o : Option Cover) (n n' : ℕ) (x : Cov
 last_dropped xs ys o n n' x m k items value h same is ne e =
     let f : o ≡ Some x = value x h ∙ ap (λ j. Some (get_or xs (j - 1) x)) (sym same) ∙ ap Some (sym is) in
     in_front m k ys x ne (subst (λ zs. in_stack m k zs ≡ true) (items ∙ ap (λ p. ys ++ option_to_list p) f) e)
+
+pub tables_kept : (xs : List (Vec (Vec Cover))) (n : ℕ) (x x' : Vec (Vec Cover)) → n < length xs → x ≡ get_or xs n x → KeepsTable x.items x'.items → KeepsStacks xs (set xs n x')
+tables_kept xs n x x' h is keep = record {
+  longer = length-set xs n x';
+  kept = λ p l k e. tables_set xs n x x' l k h is (λ i. keep.kept i l k) p e;
+}
+
+pub others_kept : (xs : List (Vec (Vec Cover))) (n : ℕ) (x x' : Vec (Vec Cover)) (loan : ℕ) → n < length xs → x ≡ get_or xs n x → KeepsOthersInTable x.items x'.items loan → KeepsOthers xs (set xs n x') loan
+others_kept xs n x x' loan h is keep = record {
+  longer = length-set xs n x';
+  kept = λ p l k ne e. tables_set xs n x x' l k h is (λ i. keep.kept i l k ne) p e;
+}
+
+pub on_ok : {T E : Type 0} (r : Result T E) (P Q : Type 0) → (P → Q) → OnOk r P → OnOk r Q
+on_ok (Ok x) P Q f p = f p
+on_ok (Err e) P Q f p = p
+
+pub stack_set : (xs : List (Vec (Vec Cover))) (h : Place) (o : ℕ) (x' : Vec (Vec Cover)) → h.view ≡ Home o → o < length xs → stack_at (set xs o x') h ≡ nth_stack x'.items h.offset
+stack_set xs h o x' e lt = ap (λ v. stack_at (set xs o x') (at v h.offset)) e ∙ ap (λ t. nth_stack t h.offset) (set_table_here xs o x' lt)

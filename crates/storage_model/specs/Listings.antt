@@ -2,10 +2,12 @@
 use Rattle.std.specs.Prelude.{◌≡◌, ◌≢◌, ℕ, ◌<◌, true, false, List, length, get_or}
 use Rattle.std.specs.Global.{Vec}
 use Rattle.storage_model.specs.declared.cell.Place.{Place}
+use Rattle.storage_model.specs.declared.cell.Spot.{Spot}
 use Rattle.storage_model.specs.declared.held.Cover.{Cover}
 use Rattle.storage_model.specs.declared.held.LoanByte.{LoanByte}
 use Rattle.storage_model.specs.Storage.{Storage, Good, is_memory}
 use Rattle.storage_model.specs.Chain.{home_of}
+use Rattle.storage_model.specs.Loans.{place_of}
 use Rattle.storage_model.specs.Held.{no_byte, in_stack, nth_stack, stack_at}
 
 -- what was listed in a table is listed still
@@ -33,3 +35,11 @@ pub record PlacesGood (s : Storage) (bytes : List LoanByte) : Type 0 where
 -- the first n bytes of a loan are listed at the home bytes under their places
 pub record PlacesListed (s : Storage) (covers : List (Vec (Vec Cover))) (loan : ℕ) (bytes : List LoanByte) (n : ℕ) : Type 0 where
   pub listed : (k : ℕ) → k < n → in_stack loan k (stack_at covers (home_of s (get_or bytes k no_byte).place)) ≡ true
+
+-- a byte of a new loan
+abbrev pub fresh_byte : Spot → LoanByte
+fresh_byte p = record { place = place_of p; written = false; read = false }
+
+-- no loan that was opened later is open
+pub record IsLast (s : Storage) (loan : ℕ) : Type 0 where
+  pub later : (l : ℕ) → loan < l → (s.loan l).is_open ≡ false

@@ -8,6 +8,7 @@ mod chain;
 mod ends;
 mod held;
 mod listing;
+mod loan;
 mod marks;
 mod new;
 mod peek;
