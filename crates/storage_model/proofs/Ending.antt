@@ -42,8 +42,8 @@ module _ (s : Storage) (laws : IsSound s) (n : ℕ) where
           home_loan s laws (at (Loan l) k) l good refl ∙ ap (home_of s) (place_at e) in
           let through : passes s p l k ≡ false = ap (list_any (same_place (at (Loan l) k))) (chain_home s laws p tt) in
           let beside : is_beside s p l k ≡ true = and_from (is_open_byte s l k) (covers s l k p && not (passes s p l k))
-              (and_from (s.loan l).is_open (ltb k (s.loan l).bytes) o (lt-ltb k (s.loan l).bytes b))
-              (and_from (covers s l k p) (not (passes s p l k)) (place_iff (home_of s (at (Loan l) k)) (home_of s p) over) (not_from_false (passes s p l k) through)) in
+          (and_from (s.loan l).is_open (ltb k (s.loan l).bytes) o (lt-ltb k (s.loan l).bytes b))
+          (and_from (covers s l k p) (not (passes s p l k)) (place_iff (home_of s (at (Loan l) k)) (home_of s p) over) (not_from_false (passes s p l k) through)) in
           both_ways (not (is_beside s p l k)) (not_from_true (is_beside s p l k) beside) at_k
 
   module _ (apart : IsUncovered s n) where

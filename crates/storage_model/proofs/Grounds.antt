@@ -64,6 +64,7 @@ module _ (s : Storage) (laws : IsSound s) where
       bool_or : (b : Bool) → (b ≡ true) ⊎ (b ≡ false)
       bool_or true = inl refl
       bool_or false = inr refl
+
       go : (n : ℕ) (v : View) → p.view ≡ v → IsHome v → chain (places s) n p ≡ p ∷ []
       go zero v e i = refl
       go (suc n) (Home o) e i = ap (λ v. p ∷ by_view (λ o. []) (λ l. chain (places s) n (places s l p.offset)) v) e

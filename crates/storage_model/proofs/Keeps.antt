@@ -72,7 +72,7 @@ module _ (objects : List HeldObject) (loans : List HeldLoan) (covers : List (Vec
       → facts (set objects o x') loans ≡ cell_set (facts objects loans) o k c → IsHeld (set objects o x') loans covers
   held_cell o k c x x' ho is len es ek e =
       let h : FactsHeld (facts (set objects o x') loans) covers = subst (λ s. FactsHeld s covers) (sym e)
-          (record { sound = sound_cell_set (facts objects loans) o k c held.sound; small = held.small; listed = held.listed }) in
+      (record { sound = sound_cell_set (facts objects loans) o k c held.sound; small = held.small; listed = held.listed }) in
       let lens = length-set objects o x' in
       record {
         sound = h.sound;
@@ -126,3 +126,6 @@ held_covers objects loans covers covers' len keep held = record {
   parallel = (let p = held.parallel in omega (arith, p, len));
   listed = λ l k o b. keep l k (home_of (facts objects loans) (at (Loan l) k)) o (held.listed l k o b);
 }
+
+pub loan_open : (loans : List HeldLoan) (l : ℕ) → (nth_loan loans l).is_open ≡ true → l < length loans
+loan_open loans l h = ⊎_elim (λ lt. lt) (λ le. let e = ap (λ y. y.is_open) (nth_loan_past loans l le) in absurd (cc)) (cases_lt l (length loans))

@@ -12,3 +12,5 @@ pub mod Reading
 pub mod Making
 pub mod Ending
 pub mod Stacks
+pub mod Opening
+pub mod Closing

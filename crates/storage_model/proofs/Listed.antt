@@ -58,7 +58,7 @@ module _ (s : Storage) (from home : Place) (is : home ≡ home_of (model s) from
             let c = r.2 d in
             let f = h r.0 d r.1 in
             let e = ap (λ x. marked x (get_or xs r.0 d).byte && is_beside (model s) from x (get_or xs r.0 d).byte) c.0
-                ∙ ap (λ y. marked l y && is_beside (model s) from l y) c.1 in
+            ∙ ap (λ y. marked l y && is_beside (model s) from l y) c.1 in
             cc
 
     -- one that is marked and beside

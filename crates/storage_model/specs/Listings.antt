@@ -1,11 +1,11 @@
 -- The lists of loans' bytes at home bytes, before and after a change.
-use Rattle.std.specs.Prelude.{◌≡◌, ◌≢◌, ℕ, ◌<◌, true, false, List, length, get_or}
+use Rattle.std.specs.Prelude.{◌≡◌, ◌≢◌, ℕ, ◌<◌, Bool, true, false, List, length, get_or}
 use Rattle.std.specs.Global.{Vec}
 use Rattle.storage_model.specs.declared.cell.Place.{Place}
 use Rattle.storage_model.specs.declared.cell.Spot.{Spot}
 use Rattle.storage_model.specs.declared.held.Cover.{Cover}
 use Rattle.storage_model.specs.declared.held.LoanByte.{LoanByte}
-use Rattle.storage_model.specs.Storage.{Storage, Good, is_memory}
+use Rattle.storage_model.specs.Storage.{Storage, Lending, Good, is_memory, places}
 use Rattle.storage_model.specs.Chain.{home_of}
 use Rattle.storage_model.specs.Loans.{place_of}
 use Rattle.storage_model.specs.Held.{no_byte, in_stack, nth_stack, stack_at}
@@ -43,3 +43,18 @@ fresh_byte p = record { place = place_of p; written = false; read = false }
 -- no loan that was opened later is open
 pub record IsLast (s : Storage) (loan : ℕ) : Type 0 where
   pub later : (l : ℕ) → loan < l → (s.loan l).is_open ≡ false
+
+-- the places of a loan are bytes of live views
+pub record StandsGood (s : Storage) (loan : ℕ) : Type 0 where
+  pub good : (k : ℕ) → k < (s.loan loan).bytes → Good s (places s loan k)
+
+-- an open loan of these bytes
+abbrev pub lent : List LoanByte → Bool → Lending
+lent bytes writable = record {
+  bytes = length bytes;
+  place = λ k. (get_or bytes k no_byte).place;
+  is_open = true;
+  writable = writable;
+  written = λ k. (get_or bytes k no_byte).written;
+  read = λ k. (get_or bytes k no_byte).read;
+}

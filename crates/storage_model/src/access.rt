@@ -48,7 +48,10 @@ impl Storage {
     {
         let (view, offset) = match p {
             Pointer::Null => return Reach::Broken(V04),
-            Pointer::Proc { number: _, proto: _ } => return Reach::Broken(V01),
+            Pointer::Proc {
+                number: _,
+                proto: _,
+            } => return Reach::Broken(V01),
             Pointer::At { view, offset } => (view, offset),
         };
         self.reach_in(view, offset, n)

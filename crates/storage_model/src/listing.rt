@@ -11,7 +11,12 @@ use crate::storage::Storage;
 use std::alloc::{AllocError, Global};
 
 /// Lists a byte of a loan at a byte of a table. What was listed stays.
-fn push_cover(alloc: Global, table: &mut Vec<Vec<Cover>>, byte: u64, cover: Cover) -> Result<(), AllocError>
+fn push_cover(
+    alloc: Global,
+    table: &mut Vec<Vec<Cover>>,
+    byte: u64,
+    cover: Cover,
+) -> Result<(), AllocError>
     ensures kept { KeepsTable table.old.items table.new.items }
     ensures listed { OnOk result (in_stack cover.loan cover.byte (nth_stack table.new.items byte) ≡ true) }
 {
@@ -42,7 +47,7 @@ fn drop_cover(table: &mut Vec<Vec<Cover>>, byte: u64, loan: u32)
 
 impl Storage {
     /// Lists a byte of a loan at a home byte.
-    fn list_cover(&mut self, home: Place, cover: Cover) -> Result<(), AllocError>
+    pub(crate) fn list_cover(&mut self, home: Place, cover: Cover) -> Result<(), AllocError>
         requires live { is_live (model self.old) home.view ≡ true }
         requires home { IsHome home.view }
         ensures model { model self.new ≡ model self.old }
@@ -59,7 +64,7 @@ impl Storage {
     }
 
     /// Takes the bytes of a loan that isn't open from the list at a home byte.
-    fn unlist(&mut self, home: Place, loan: u32)
+    pub(crate) fn unlist(&mut self, home: Place, loan: u32)
         requires { ((model self.old).loan loan).is_open ≡ false }
         ensures { model self.new ≡ model self.old }
     {

@@ -60,7 +60,10 @@ impl Pointer {
         match self {
             Pointer::Null => true,
             Pointer::At { view: _, offset: _ } => false,
-            Pointer::Proc { number: _, proto: _ } => false,
+            Pointer::Proc {
+                number: _,
+                proto: _,
+            } => false,
         }
     }
 }
@@ -79,7 +82,10 @@ impl Storage {
         match p {
             Pointer::Null => true,
             Pointer::At { view, offset: _ } => self.is_live(view),
-            Pointer::Proc { number: _, proto: _ } => true,
+            Pointer::Proc {
+                number: _,
+                proto: _,
+            } => true,
         }
     }
 
@@ -89,7 +95,10 @@ impl Storage {
         match p {
             Pointer::Null => true,
             Pointer::At { view, offset } => self.in_view(view, offset),
-            Pointer::Proc { number: _, proto: _ } => true,
+            Pointer::Proc {
+                number: _,
+                proto: _,
+            } => true,
         }
     }
 
@@ -100,7 +109,10 @@ impl Storage {
     {
         let (view, offset) = match p {
             Pointer::Null => return Did::Violation(V04),
-            Pointer::Proc { number: _, proto: _ } => return Did::Violation(V01),
+            Pointer::Proc {
+                number: _,
+                proto: _,
+            } => return Did::Violation(V01),
             Pointer::At { view, offset } => (view, offset),
         };
         if !self.is_live(view) {
@@ -177,9 +189,16 @@ impl Storage {
         }
         match (a, b) {
             (Pointer::Null, Pointer::Null) => Did::Done(true),
-            (Pointer::Proc { number: n, proto: _ }, Pointer::Proc { number: m, proto: _ }) => {
-                Did::Done(n == m)
-            }
+            (
+                Pointer::Proc {
+                    number: n,
+                    proto: _,
+                },
+                Pointer::Proc {
+                    number: m,
+                    proto: _,
+                },
+            ) => { Did::Done(n == m) }
             (Pointer::At { view: v, offset: j }, Pointer::At { view: w, offset: k }) => {
                 if v.is(w) {
                     Did::Done(j == k)

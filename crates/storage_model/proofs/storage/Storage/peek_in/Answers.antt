@@ -24,5 +24,6 @@ returns-else-is_live c =
     let z : c.args.offset ≡ pos c.in-Some.start = offset_some _ _ (ap offset_of (sym (to_z-of_z w64 c.args.offset c.ranges.offset)) ∙ sym c.start_of.ensures ∙ c.in-Some.is) in
     sym (ap (by_offset (λ k. peek_at m c.args.view k) None) z
     ∙ elim c.else-is_live.branch [
-      else-is_live-via-then-is_live+else-start-size_of w ↦ peek_outside m c.args.self.now.held.sound c.args.view c.in-Some.start (omega (arith, w.size_of.ensures.value))
-    | else-is_live-via-else-is_live w ↦ peek_dead m c.args.self.now.held.sound c.args.view c.in-Some.start (sym c.is_live.ensures ∙ w.if-is_live.false) ])
+      | else-is_live-via-then-is_live+else-start-size_of w ↦ peek_outside m c.args.self.now.held.sound c.args.view c.in-Some.start (omega (arith, w.size_of.ensures.value))
+      | else-is_live-via-else-is_live w ↦ peek_dead m c.args.self.now.held.sound c.args.view c.in-Some.start (sym c.is_live.ensures ∙ w.if-is_live.false)
+    ])

@@ -24,5 +24,6 @@ returns-else-n-size-clause-answer c points =
     access_outside (model c.args.self.now) c.args.self.now.held.sound points c.args.view c.args.offset c.in-Some.start c.args.n
     (sym c.is_live.ensures ∙ c.if-not-is_live.false) (omega arith) (ap offset_of (sym (to_z-of_z w64 c.args.offset c.ranges.offset)) ∙ sym c.start_of.ensures ∙ c.in-Some.is)
     (elim c.else-n-size.branch [
-      else-n-size-via-then-n-size+else-start-size w ↦ omega (arith, c.size_of-size.ensures.value)
-    | else-n-size-via-else-n-size w ↦ omega (arith, c.size_of-size.ensures.value) ])
+      | else-n-size-via-then-n-size+else-start-size w ↦ omega (arith, c.size_of-size.ensures.value)
+      | else-n-size-via-else-n-size w ↦ omega (arith, c.size_of-size.ensures.value)
+    ])

@@ -30,13 +30,15 @@ loop-i-preserved c =
     let is : (d : Cover) → get_or xs i d ≡ x = λ d. get_or_any xs i d none lt ∙ sym (ap (λ ys. get_or ys i none) ex) in
     record {
       covers = elim c.if-is_beside.branch [
-        then-is_beside w ↦ ap (λ y. y.covers) w.self-is ∙ w.set_read.ensures.covers ∙ c.loop-i.invariant.covers
-      | else-is_beside w ↦ ap (λ y. y.covers) w.self-is ∙ c.loop-i.invariant.covers ];
+        | then-is_beside w ↦ ap (λ y. y.covers) w.self-is ∙ w.set_read.ensures.covers ∙ c.loop-i.invariant.covers
+        | else-is_beside w ↦ ap (λ y. y.covers) w.self-is ∙ c.loop-i.invariant.covers
+      ];
       marked = elim c.if-is_beside.branch [
-        then-is_beside w ↦ marked_put (model s) (model c.loop-i.self) c.args.from xs i c.loop-i.invariant.marked x lt is
+        | then-is_beside w ↦ marked_put (model s) (model c.loop-i.self) c.args.from xs i c.loop-i.invariant.marked x lt is
             (sym c.is_beside.ensures ∙ w.if-is_beside.true) (model c.if-is_beside.self) (ap model w.self-is ∙ w.set_read.ensures.marks)
-      | else-is_beside w ↦ subst (λ y. Marked (model s) (model y) c.args.from xs (i + 1)) (sym w.self-is)
-            (marked_skip (model s) (model c.loop-i.self) c.args.from xs i c.loop-i.invariant.marked x lt is (sym c.is_beside.ensures ∙ w.if-is_beside.false)) ];
+        | else-is_beside w ↦ subst (λ y. Marked (model s) (model y) c.args.from xs (i + 1)) (sym w.self-is)
+            (marked_skip (model s) (model c.loop-i.self) c.args.from xs i c.loop-i.invariant.marked x lt is (sym c.is_beside.ensures ∙ w.if-is_beside.false))
+      ];
     }
 
 pub returns : goal.returns

@@ -15,8 +15,12 @@ pub index_mut-requires : goal.index_mut-requires
 index_mut-requires c =
     let s = c.args.self.now in
     let there = object_there s.objects.items c.args.object c.args.byte c.requires.within in
-    omega (arith, cell_there s.objects.items c.args.object c.args.byte c.index_mut-held.result.now c.requires.within c.requires.memory c.index_mut-held.ensures.value
-    (s.held.sized c.args.object c.index_mut-held.result.now there c.index_mut-held.ensures.value), c.index_mut-held.result.now.cells.ok.0)
+    omega (
+      arith,
+      cell_there s.objects.items c.args.object c.args.byte c.index_mut-held.result.now c.requires.within c.requires.memory c.index_mut-held.ensures.value
+          (s.held.sized c.args.object c.index_mut-held.result.now there c.index_mut-held.ensures.value),
+      c.index_mut-held.result.now.cells.ok.0,
+    )
 
 pub invariant_of-self : goal.invariant_of-self
 invariant_of-self c =
@@ -24,11 +28,13 @@ invariant_of-self c =
     let x = c.index_mut-held.result.now in
     let there = object_there s.objects.items c.args.object c.args.byte c.requires.within in
     let x' : HeldObject = record x { cells = with_item x.cells c.args.byte c.args.cell } in
-    record { held = held_cell s.objects.items s.loans.items s.covers.items s.held c.args.object c.args.byte c.args.cell x x' there c.index_mut-held.ensures.value
-        (length-set x.cells.items c.args.byte c.args.cell) refl refl
-        (cell_facts s.objects.items c.args.object c.args.byte x x' c.args.cell there c.index_mut-held.ensures.value
-        (cell_there s.objects.items c.args.object c.args.byte x c.requires.within c.requires.memory c.index_mut-held.ensures.value (s.held.sized c.args.object x there c.index_mut-held.ensures.value))
-        refl refl refl refl s.loans.items) }
+    record {
+      held = held_cell s.objects.items s.loans.items s.covers.items s.held c.args.object c.args.byte c.args.cell x x' there c.index_mut-held.ensures.value
+          (length-set x.cells.items c.args.byte c.args.cell) refl refl
+          (cell_facts s.objects.items c.args.object c.args.byte x x' c.args.cell there c.index_mut-held.ensures.value
+          (cell_there s.objects.items c.args.object c.args.byte x c.requires.within c.requires.memory c.index_mut-held.ensures.value (s.held.sized c.args.object x there c.index_mut-held.ensures.value))
+          refl refl refl refl s.loans.items);
+    }
 
 pub returns-clause-cells : goal.returns-clause-cells
 returns-clause-cells c =
@@ -37,5 +43,5 @@ returns-clause-cells c =
     let there = object_there s.objects.items c.args.object c.args.byte c.requires.within in
     let x' : HeldObject = record x { cells = with_item x.cells c.args.byte c.args.cell } in
     cell_facts s.objects.items c.args.object c.args.byte x x' c.args.cell there c.index_mut-held.ensures.value
-        (cell_there s.objects.items c.args.object c.args.byte x c.requires.within c.requires.memory c.index_mut-held.ensures.value (s.held.sized c.args.object x there c.index_mut-held.ensures.value))
-        refl refl refl refl s.loans.items
+    (cell_there s.objects.items c.args.object c.args.byte x c.requires.within c.requires.memory c.index_mut-held.ensures.value (s.held.sized c.args.object x there c.index_mut-held.ensures.value))
+    refl refl refl refl s.loans.items

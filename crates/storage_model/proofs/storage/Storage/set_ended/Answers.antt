@@ -11,8 +11,10 @@ invariant_of-self c =
     let s = c.args.self.now in
     let x = c.index_mut-held.result.now in
     let x' : HeldObject = record x { alive = false } in
-    record { held = held_end s.objects.items c.args.object x x' (object_alive s.objects.items c.args.object c.requires.live) c.index_mut-held.ensures.value
-        refl refl refl refl s.loans.items s.covers.items c.requires.alone s.held }
+    record {
+      held = held_end s.objects.items c.args.object x x' (object_alive s.objects.items c.args.object c.requires.live) c.index_mut-held.ensures.value
+          refl refl refl refl s.loans.items s.covers.items c.requires.alone s.held;
+    }
 
 pub returns : goal.returns
 returns c =

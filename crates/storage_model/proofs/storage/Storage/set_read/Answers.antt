@@ -22,11 +22,13 @@ invariant_of-self c =
     let x = c.index_mut-held.result.now in
     let b = c.index_mut.result.now in
     let x' : HeldLoan = record x { bytes = with_item x.bytes c.args.byte (record b { read = true }) } in
-    record { held = held_read s.objects.items s.loans.items s.covers.items s.held _ c.args.loan c.args.byte
-        (read_facts s.loans.items c.args.loan c.args.byte x x' b (record b { read = true })
-        (loan_there s.loans.items c.args.loan c.args.byte c.requires) c.index_mut-held.ensures.value
-        (byte_there s.loans.items c.args.loan c.args.byte x c.requires c.index_mut-held.ensures.value) c.index_mut.ensures.value
-        refl refl refl refl s.objects.items refl refl) }
+    record {
+      held = held_read s.objects.items s.loans.items s.covers.items s.held _ c.args.loan c.args.byte
+          (read_facts s.loans.items c.args.loan c.args.byte x x' b (record b { read = true })
+          (loan_there s.loans.items c.args.loan c.args.byte c.requires) c.index_mut-held.ensures.value
+          (byte_there s.loans.items c.args.loan c.args.byte x c.requires c.index_mut-held.ensures.value) c.index_mut.ensures.value
+          refl refl refl refl s.objects.items refl refl);
+    }
 
 pub returns-clause-marks : goal.returns-clause-marks
 returns-clause-marks c =
@@ -35,6 +37,6 @@ returns-clause-marks c =
     let b = c.index_mut.result.now in
     let x' : HeldLoan = record x { bytes = with_item x.bytes c.args.byte (record b { read = true }) } in
     read_facts s.loans.items c.args.loan c.args.byte x x' b (record b { read = true })
-        (loan_there s.loans.items c.args.loan c.args.byte c.requires) c.index_mut-held.ensures.value
-        (byte_there s.loans.items c.args.loan c.args.byte x c.requires c.index_mut-held.ensures.value) c.index_mut.ensures.value
-        refl refl refl refl s.objects.items refl refl
+    (loan_there s.loans.items c.args.loan c.args.byte c.requires) c.index_mut-held.ensures.value
+    (byte_there s.loans.items c.args.loan c.args.byte x c.requires c.index_mut-held.ensures.value) c.index_mut.ensures.value
+    refl refl refl refl s.objects.items refl refl

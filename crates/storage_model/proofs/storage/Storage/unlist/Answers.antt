@@ -11,5 +11,7 @@ invariant_of-self c =
     let s = c.args.self.now in
     let there : c.in-Home.o < length s.covers.items = omega (arith, s.covers.ok.0) in
     let keep = others_kept s.covers.items c.in-Home.o c.index_mut.result.now c.drop_cover.new.table c.args.loan there c.index_mut.ensures.value c.drop_cover.ensures in
-    record { held = held_covers s.objects.items s.loans.items s.covers.items _ keep.longer
-        (λ l k h o. keep.kept h l k (λ e. not_both (nth_loan s.loans.items l).is_open o (ap (λ x. (nth_loan s.loans.items x).is_open) e ∙ c.requires))) s.held }
+    record {
+      held = held_covers s.objects.items s.loans.items s.covers.items _ keep.longer
+          (λ l k h o. keep.kept h l k (λ e. not_both (nth_loan s.loans.items l).is_open o (ap (λ x. (nth_loan s.loans.items x).is_open) e ∙ c.requires))) s.held;
+    }
