@@ -20,3 +20,6 @@ mod write;
 
 pub use cell::{Cell, Did, Kind, Pointer, Spot, View};
 pub use storage::Storage;
+
+#[cfg(test)]
+mod tests;

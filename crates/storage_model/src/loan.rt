@@ -1,4 +1,4 @@
-ghost use Rattle.std.specs.Prelude.{◌≡◌, ◌<◌, ℕ, true, false, length, map, IfOk, OnOk, OnErr};
+ghost use Rattle.std.specs.Prelude.{◌≡◌, ◌<◌, ◌↔◌, IsTrue, ℕ, true, false, length, map, IfOk, OnOk, OnErr};
 ghost use Rattle.std.specs.List.{list_all};
 ghost use Rattle.storage_model.specs.Storage.{is_live, is_memory};
 ghost use Rattle.storage_model.specs.Loans.{check_open, spot_in_range, place_of, new_loan, open_one, close_one, check_close};
@@ -189,5 +189,17 @@ impl Storage {
         self.set_closed(loan);
         self.unlist_loan(loan);
         Did::Done(())
+    }
+
+    /// Whether no loan that was opened later is open, as closing it asks.
+    pub fn is_last(&self, loan: u32) -> bool
+        ensures { IsTrue result ↔ IsLast (model self.now) loan }
+    {
+        for l in loan as usize..self.loans.len() {
+            if l > loan as usize && self.loans[l].is_open {
+                return false;
+            }
+        }
+        true
     }
 }

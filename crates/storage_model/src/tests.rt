@@ -1,0 +1,170 @@
+use crate::{Cell, Did, Kind, Pointer, Spot, Storage, View};
+use jf_base::Tag;
+use std::alloc::{AllocError, Global};
+use std::process::Abort;
+use std::test::Fail;
+
+fn at(view: View, offset: i64) -> Pointer {
+    Pointer::At { view, offset }
+}
+
+fn done<T: Drop>(rt: &impl Abort, answer: Did<T>) -> T {
+    match answer {
+        Did::Done(x) => x,
+        Did::Violation(_) => panic!(rt; "a violation"),
+        Did::Memory => panic!(rt; "no memory"),
+    }
+}
+
+// The number of the rule that is broken, and 0 where none is.
+fn broken<T: Drop>(answer: Did<T>) -> u16 {
+    match answer {
+        Did::Done(_) => 0,
+        Did::Violation(Tag(number)) => number,
+        Did::Memory => 1,
+    }
+}
+
+// The places of `count` bytes of a view from the start on.
+fn first_bytes(alloc: Global, view: View, count: i64) -> Result<Vec<Spot>, AllocError> {
+    let mut places = Vec::new(alloc);
+    for offset in 0..count {
+        places.push(Spot { view, offset })?;
+    }
+    Ok(places)
+}
+
+// An object of eight bytes 1.
+fn eight(rt: &impl Abort, s: &mut Storage) -> u32 {
+    match s.make(8, Kind::Plain, &[Cell::Byte(1); 8]) {
+        Ok(o) => o,
+        Err(_) => panic!(rt; "no memory"),
+    }
+}
+
+#[test]
+fn a_write_through_a_loan_then_a_read_beside_it(rt: HostRuntime) -> Result<(), Fail> {
+    let mut s = Storage::new(rt.alloc())?;
+    let o = eight(&rt, &mut s);
+    let l = done(&rt, s.open_loan(first_bytes(rt.alloc(), View::Home(o), 4)?, true));
+    assert_eq!(rt; broken(s.write(at(View::Loan(l), 0), 1, &[Cell::Byte(7)])), 0);
+    assert_eq!(rt; broken(s.read(at(View::Home(o), 0), 1, 1)), 907);
+    assert_eq!(rt; broken(s.read(at(View::Home(o), 1), 1, 1)), 0);
+    assert_eq!(rt; broken(s.read(at(View::Home(o), 4), 4, 1)), 0);
+    assert_eq!(rt; broken(s.write(at(View::Home(o), 4), 1, &[Cell::Byte(2)])), 0);
+    assert_eq!(rt; broken(s.write(at(View::Home(o), 3), 1, &[Cell::Byte(2)])), 907);
+    assert_eq!(rt; broken(s.end(o)), 907);
+    Ok(())
+}
+
+#[test]
+fn a_read_beside_a_loan_then_a_write_through_it(rt: HostRuntime) -> Result<(), Fail> {
+    let mut s = Storage::new(rt.alloc())?;
+    let o = eight(&rt, &mut s);
+    let l = done(&rt, s.open_loan(first_bytes(rt.alloc(), View::Home(o), 4)?, true));
+    let cells = done(&rt, s.read(at(View::Home(o), 0), 1, 1));
+    assert_eq!(rt; cells.as_slice(), [Cell::Byte(1)].as_slice());
+    assert_eq!(rt; broken(s.write(at(View::Loan(l), 0), 1, &[Cell::Byte(7)])), 907);
+    assert_eq!(rt; broken(s.write(at(View::Loan(l), 1), 1, &[Cell::Byte(7)])), 0);
+    Ok(())
+}
+
+#[test]
+fn each_point_has_its_violation(rt: HostRuntime) -> Result<(), Fail> {
+    let mut s = Storage::new(rt.alloc())?;
+    let gone = eight(&rt, &mut s);
+    let o = eight(&rt, &mut s);
+    assert_eq!(rt; broken(s.end(gone)), 0);
+    assert_eq!(rt; broken(s.end(gone)), 902);
+    assert_eq!(rt; broken(s.read(at(View::Home(gone), 0), 1, 1)), 902);
+    assert_eq!(rt; broken(s.read(at(View::Home(gone), 0), 0, 1)), 902);
+    assert_eq!(rt; broken(s.read(Pointer::Null, 1, 1)), 904);
+    assert_eq!(rt; broken(s.read(Pointer::Proc { number: 0, proto: 0 }, 1, 1)), 901);
+    assert_eq!(rt; broken(s.read(at(View::Home(o), 5), 4, 4)), 901);
+    assert_eq!(rt; broken(s.read(at(View::Home(o), -1), 1, 1)), 901);
+    assert_eq!(rt; broken(s.read(at(View::Home(o), 2), 4, 4)), 905);
+    assert_eq!(rt; broken(s.read(at(View::Home(o), 9), 0, 4)), 0);
+    let text = s.make(2, Kind::ReadOnly, &[Cell::Byte(65), Cell::Byte(0)])?;
+    assert_eq!(rt; broken(s.write(at(View::Home(text), 0), 1, &[Cell::Byte(66)])), 906);
+    let described = s.make(24, Kind::Descriptor(0), &[])?;
+    assert_eq!(rt; broken(s.read(at(View::Home(described), 0), 1, 1)), 921);
+    assert_eq!(rt; broken(s.open_loan(first_bytes(rt.alloc(), View::Home(described), 1)?, true)), 921);
+    assert_eq!(rt; broken(s.end(described)), 0);
+    let fresh = s.make(1, Kind::Plain, &[])?;
+    let cells = done(&rt, s.read(at(View::Home(fresh), 0), 1, 1));
+    assert_eq!(rt; cells.as_slice(), [Cell::Undefined].as_slice());
+    Ok(())
+}
+
+#[test]
+fn pointers_are_moved_and_compared(rt: HostRuntime) -> Result<(), Fail> {
+    let mut s = Storage::new(rt.alloc())?;
+    let a = eight(&rt, &mut s);
+    let b = eight(&rt, &mut s);
+    let end = at(View::Home(a), 8);
+    assert_eq!(rt; done(&rt, s.moved(at(View::Home(a), 0), 8)), end);
+    assert_eq!(rt; broken(s.moved(end, 1)), 901);
+    assert_eq!(rt; broken(s.moved(Pointer::Null, 0)), 904);
+    assert_eq!(rt; done(&rt, s.distance(end, at(View::Home(a), 2))), 6);
+    assert_eq!(rt; broken(s.distance(end, at(View::Home(b), 0))), 911);
+    assert!(rt; !done(&rt, s.equal(end, at(View::Home(b), 0))));
+    assert!(rt; done(&rt, s.equal(end, end)));
+    let l = done(&rt, s.open_loan(first_bytes(rt.alloc(), View::Home(a), 2)?, false));
+    assert_eq!(rt; broken(s.equal(at(View::Loan(l), 0), end)), 911);
+    assert!(rt; !done(&rt, s.equal(at(View::Loan(l), 0), at(View::Home(b), 0))));
+    assert_eq!(rt; broken(s.write(at(View::Loan(l), 0), 1, &[Cell::Byte(3)])), 906);
+    assert_eq!(rt; broken(s.equal(at(View::Home(9), 0), Pointer::Null)), 902);
+    Ok(())
+}
+
+// The ways to the first byte of an object: its home, a loan over it, a loan over that, and one over that.
+fn ways(rt: &HostRuntime, s: &mut Storage) -> Result<[View; 4], Fail> {
+    let home = View::Home(eight(rt, s));
+    let one = View::Loan(done(rt, s.open_loan(first_bytes(rt.alloc(), home, 4)?, true)));
+    let two = View::Loan(done(rt, s.open_loan(first_bytes(rt.alloc(), one, 4)?, true)));
+    let three = View::Loan(done(rt, s.open_loan(first_bytes(rt.alloc(), two, 4)?, true)));
+    Ok([home, one, two, three])
+}
+
+#[test]
+fn every_pair_of_ways_through_nested_loans(rt: HostRuntime) -> Result<(), Fail> {
+    for i in 0..4usize {
+        for j in 0..4usize {
+            let mut s = Storage::new(rt.alloc())?;
+            let way = ways(&rt, &mut s)?;
+            // only the last loan has no other beside it
+            let wrote = broken(s.write(at(way[i], 0), 1, &[Cell::Byte(9)]));
+            assert_eq!(rt; wrote, if i == 3 { 0 } else { 907 });
+            let read = broken(s.read(at(way[j], 0), 1, 1));
+            assert_eq!(rt; read, if i == 3 && j != 3 { 907 } else { 0 });
+            // a byte that was read beside a loan isn't written through it
+            let again = broken(s.write(at(way[3], 0), 1, &[Cell::Byte(8)]));
+            assert_eq!(rt; again, if i != 3 && j != 3 { 907 } else { 0 });
+        }
+    }
+    Ok(())
+}
+
+#[test]
+fn what_was_written_through_a_loan_is_there_after_it_closes(rt: HostRuntime) -> Result<(), Fail> {
+    let mut s = Storage::new(rt.alloc())?;
+    let way = ways(&rt, &mut s)?;
+    assert_eq!(rt; broken(s.write(at(way[3], 0), 1, &[Cell::Byte(9)])), 0);
+    assert!(rt; s.is_last(2));
+    assert_eq!(rt; broken(s.close_loan(2)), 0);
+    assert_eq!(rt; broken(s.read(at(way[3], 0), 1, 1)), 902);
+    let cells = done(&rt, s.read(at(way[2], 0), 2, 1));
+    assert_eq!(rt; cells.as_slice(), [Cell::Byte(9), Cell::Byte(1)].as_slice());
+    assert_eq!(rt; broken(s.read(at(way[0], 0), 1, 1)), 907);
+    assert!(rt; s.is_last(1));
+    assert_eq!(rt; broken(s.close_loan(1)), 0);
+    assert!(rt; s.is_last(0));
+    assert_eq!(rt; broken(s.close_loan(0)), 0);
+    let cells = done(&rt, s.read(at(way[0], 0), 1, 1));
+    assert_eq!(rt; cells.as_slice(), [Cell::Byte(9)].as_slice());
+    assert_eq!(rt; s.peek(Spot { view: way[0], offset: 1 }), Some(Cell::Byte(1)));
+    assert_eq!(rt; s.peek(Spot { view: way[1], offset: 0 }), None);
+    assert!(rt; s.is_last(0));
+    assert_eq!(rt; broken(s.close_loan(0)), 902);
+    Ok(())
+}
