@@ -19,7 +19,7 @@ use Rattle.storage_model.specs.Held.{IsHeld, facts, nth_object, object_of, cell_
 use Rattle.storage_model.specs.Reach.{IsUncovered}
 use Rattle.storage_model.proofs.Chains.{nat_or, place_at}
 use Rattle.storage_model.proofs.Nth.{nth_object_at}
-use Rattle.storage_model.proofs.Tests.{each_at, place_iff}
+use Rattle.storage_model.proofs.Meanings.{each_at, place_iff}
 use Rattle.storage_model.proofs.Grounds.{good_loan, opened_if, chain_home, home_home, home_loan}
 use Rattle.storage_model.proofs.Updates.{set_object_here, set_object_else, got_here, got_else}
 

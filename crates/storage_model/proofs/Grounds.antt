@@ -10,7 +10,7 @@ use Rattle.storage_model.specs.Storage.{Storage, at, by_view, places, On, Here, 
 use Rattle.storage_model.specs.Laws.{IsSound}
 use Rattle.storage_model.specs.Chain.{same_place, chain, home, chain_of, home_of, in_range, passes}
 use Rattle.storage_model.proofs.Chains.{loan_same, home_or_loan, one_home, place_at}
-use Rattle.storage_model.proofs.Tests.{all_chain, all_chain_from, any_chain, in_chain, home_found, chain_enough, home_enough, place_true}
+use Rattle.storage_model.proofs.Meanings.{all_chain, all_chain_from, any_chain, in_chain, home_found, chain_enough, home_enough, place_true}
 
 pub not_both : (b : Bool) → b ≡ true → b ≡ false → ⊥
 not_both b t f = cc

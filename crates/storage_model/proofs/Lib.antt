@@ -1,6 +1,6 @@
 pub mod Nth
 pub mod Chains
-pub mod Tests
+pub mod Meanings
 pub mod Grounds
 pub mod Steps
 pub mod Listed

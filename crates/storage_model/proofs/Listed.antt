@@ -12,7 +12,7 @@ use Rattle.storage_model.specs.Storage.{at, Good}
 use Rattle.storage_model.specs.Chain.{each_below, home_of, covers, passes, same_place, is_open_byte, is_beside, none_beside}
 use Rattle.storage_model.specs.Held.{in_stack, stack_at}
 use Rattle.storage_model.specs.Model.{model}
-use Rattle.storage_model.proofs.Tests.{each_from, each_fails, place_true}
+use Rattle.storage_model.proofs.Meanings.{each_from, each_fails, place_true}
 use Rattle.storage_model.proofs.Steps.{get_or_any}
 use Rattle.storage_model.proofs.Grounds.{opened_if}
 

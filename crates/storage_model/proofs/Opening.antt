@@ -23,7 +23,7 @@ use Rattle.storage_model.specs.Loans.{spot_in_range, place_of, new_loan, open_on
 use Rattle.storage_model.specs.Held.{IsHeld, facts, nth_loan, loan_of, no_byte, stack_at, in_stack}
 use Rattle.storage_model.specs.Listings.{PlacesGood, PlacesListed, fresh_byte, lent}
 use Rattle.storage_model.proofs.Chains.{nat_or, loan_same, loan_no_home}
-use Rattle.storage_model.proofs.Tests.{home_enough}
+use Rattle.storage_model.proofs.Meanings.{home_enough}
 use Rattle.storage_model.proofs.Grounds.{not_both, bound, home_loan}
 use Rattle.storage_model.proofs.Steps.{get_or_past}
 

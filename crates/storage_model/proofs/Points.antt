@@ -14,7 +14,7 @@ use Rattle.storage_model.specs.Laws.{IsSound}
 use Rattle.storage_model.specs.Chain.{chain, chain_of, in_range, each_below, each_byte, aligned_to, may_write, not_read, none_beside, written_marks, any_mark, cell_under}
 use Rattle.storage_model.specs.Access.{first, check_access, offset_of, read_points, write_points, peek_at}
 use Rattle.storage_model.specs.Reach.{GoodBytes}
-use Rattle.storage_model.proofs.Tests.{each_from, each_fails, each_at, one_test}
+use Rattle.storage_model.proofs.Meanings.{each_from, each_fails, each_at, one_test}
 use Rattle.storage_model.proofs.Grounds.{good_chain, memory_chain, chain_all, chain_all_from, chain_outside, chain_good}
 
 pub first_true : (b : Bool) (t : Tag) (rest : Option Tag) → b ≡ true → first b t rest ≡ rest

@@ -15,7 +15,7 @@ use Rattle.storage_model.specs.Held.{in_stack, stack_at}
 use Rattle.storage_model.specs.Marks.{is_at, read_set}
 use Rattle.storage_model.specs.Reach.{GoodBytes}
 use Rattle.storage_model.specs.Model.{model}
-use Rattle.storage_model.proofs.Tests.{one_test}
+use Rattle.storage_model.proofs.Meanings.{one_test}
 use Rattle.storage_model.proofs.Listed.{in_stack_at, beside_listed, open_byte}
 use Rattle.storage_model.proofs.Steps.{get_or_any}
 use Rattle.storage_model.proofs.Updates.{at_here}

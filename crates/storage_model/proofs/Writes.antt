@@ -13,7 +13,7 @@ use Rattle.storage_model.specs.Chain.{same_view, same_place, chain_of, home_of, 
 use Rattle.storage_model.specs.Access.{write_one, write_all}
 use Rattle.storage_model.specs.Marks.{is_at, cell_set, written_set}
 use Rattle.storage_model.specs.Reach.{GoodBytes}
-use Rattle.storage_model.proofs.Tests.{one_test}
+use Rattle.storage_model.proofs.Meanings.{one_test}
 use Rattle.storage_model.proofs.Grounds.{chain_loan, home_loan, chain_home, home_home}
 
 pub eqb_sym : (a b : ℕ) → (a == b) ≡ (b == a)

@@ -46,13 +46,25 @@ fn eight(rt: &impl Abort, s: &mut Storage) -> u32 {
 fn a_write_through_a_loan_then_a_read_beside_it(rt: HostRuntime) -> Result<(), Fail> {
     let mut s = Storage::new(rt.alloc())?;
     let o = eight(&rt, &mut s);
-    let l = done(&rt, s.open_loan(first_bytes(rt.alloc(), View::Home(o), 4)?, true));
-    assert_eq!(rt; broken(s.write(at(View::Loan(l), 0), 1, &[Cell::Byte(7)])), 0);
+    let l = done(
+        &rt,
+        s.open_loan(first_bytes(rt.alloc(), View::Home(o), 4)?, true),
+    );
+    assert_eq!(rt;
+        broken(s.write(at(View::Loan(l), 0), 1, &[Cell::Byte(7)])),
+        0
+    );
     assert_eq!(rt; broken(s.read(at(View::Home(o), 0), 1, 1)), 907);
     assert_eq!(rt; broken(s.read(at(View::Home(o), 1), 1, 1)), 0);
     assert_eq!(rt; broken(s.read(at(View::Home(o), 4), 4, 1)), 0);
-    assert_eq!(rt; broken(s.write(at(View::Home(o), 4), 1, &[Cell::Byte(2)])), 0);
-    assert_eq!(rt; broken(s.write(at(View::Home(o), 3), 1, &[Cell::Byte(2)])), 907);
+    assert_eq!(rt;
+        broken(s.write(at(View::Home(o), 4), 1, &[Cell::Byte(2)])),
+        0
+    );
+    assert_eq!(rt;
+        broken(s.write(at(View::Home(o), 3), 1, &[Cell::Byte(2)])),
+        907
+    );
     assert_eq!(rt; broken(s.end(o)), 907);
     Ok(())
 }
@@ -61,11 +73,20 @@ fn a_write_through_a_loan_then_a_read_beside_it(rt: HostRuntime) -> Result<(), F
 fn a_read_beside_a_loan_then_a_write_through_it(rt: HostRuntime) -> Result<(), Fail> {
     let mut s = Storage::new(rt.alloc())?;
     let o = eight(&rt, &mut s);
-    let l = done(&rt, s.open_loan(first_bytes(rt.alloc(), View::Home(o), 4)?, true));
+    let l = done(
+        &rt,
+        s.open_loan(first_bytes(rt.alloc(), View::Home(o), 4)?, true),
+    );
     let cells = done(&rt, s.read(at(View::Home(o), 0), 1, 1));
     assert_eq!(rt; cells.as_slice(), [Cell::Byte(1)].as_slice());
-    assert_eq!(rt; broken(s.write(at(View::Loan(l), 0), 1, &[Cell::Byte(7)])), 907);
-    assert_eq!(rt; broken(s.write(at(View::Loan(l), 1), 1, &[Cell::Byte(7)])), 0);
+    assert_eq!(rt;
+        broken(s.write(at(View::Loan(l), 0), 1, &[Cell::Byte(7)])),
+        907
+    );
+    assert_eq!(rt;
+        broken(s.write(at(View::Loan(l), 1), 1, &[Cell::Byte(7)])),
+        0
+    );
     Ok(())
 }
 
@@ -79,16 +100,32 @@ fn each_point_has_its_violation(rt: HostRuntime) -> Result<(), Fail> {
     assert_eq!(rt; broken(s.read(at(View::Home(gone), 0), 1, 1)), 902);
     assert_eq!(rt; broken(s.read(at(View::Home(gone), 0), 0, 1)), 902);
     assert_eq!(rt; broken(s.read(Pointer::Null, 1, 1)), 904);
-    assert_eq!(rt; broken(s.read(Pointer::Proc { number: 0, proto: 0 }, 1, 1)), 901);
+    assert_eq!(rt;
+        broken(s.read(
+            Pointer::Proc {
+                number: 0,
+                proto: 0
+            },
+            1,
+            1
+        )),
+        901
+    );
     assert_eq!(rt; broken(s.read(at(View::Home(o), 5), 4, 4)), 901);
     assert_eq!(rt; broken(s.read(at(View::Home(o), -1), 1, 1)), 901);
     assert_eq!(rt; broken(s.read(at(View::Home(o), 2), 4, 4)), 905);
     assert_eq!(rt; broken(s.read(at(View::Home(o), 9), 0, 4)), 0);
     let text = s.make(2, Kind::ReadOnly, &[Cell::Byte(65), Cell::Byte(0)])?;
-    assert_eq!(rt; broken(s.write(at(View::Home(text), 0), 1, &[Cell::Byte(66)])), 906);
+    assert_eq!(rt;
+        broken(s.write(at(View::Home(text), 0), 1, &[Cell::Byte(66)])),
+        906
+    );
     let described = s.make(24, Kind::Descriptor(0), &[])?;
     assert_eq!(rt; broken(s.read(at(View::Home(described), 0), 1, 1)), 921);
-    assert_eq!(rt; broken(s.open_loan(first_bytes(rt.alloc(), View::Home(described), 1)?, true)), 921);
+    assert_eq!(rt;
+        broken(s.open_loan(first_bytes(rt.alloc(), View::Home(described), 1)?, true)),
+        921
+    );
     assert_eq!(rt; broken(s.end(described)), 0);
     let fresh = s.make(1, Kind::Plain, &[])?;
     let cells = done(&rt, s.read(at(View::Home(fresh), 0), 1, 1));
@@ -109,20 +146,26 @@ fn pointers_are_moved_and_compared(rt: HostRuntime) -> Result<(), Fail> {
     assert_eq!(rt; broken(s.distance(end, at(View::Home(b), 0))), 911);
     assert!(rt; !done(&rt, s.equal(end, at(View::Home(b), 0))));
     assert!(rt; done(&rt, s.equal(end, end)));
-    let l = done(&rt, s.open_loan(first_bytes(rt.alloc(), View::Home(a), 2)?, false));
+    let l = done(
+        &rt,
+        s.open_loan(first_bytes(rt.alloc(), View::Home(a), 2)?, false),
+    );
     assert_eq!(rt; broken(s.equal(at(View::Loan(l), 0), end)), 911);
     assert!(rt; !done(&rt, s.equal(at(View::Loan(l), 0), at(View::Home(b), 0))));
-    assert_eq!(rt; broken(s.write(at(View::Loan(l), 0), 1, &[Cell::Byte(3)])), 906);
+    assert_eq!(rt;
+        broken(s.write(at(View::Loan(l), 0), 1, &[Cell::Byte(3)])),
+        906
+    );
     assert_eq!(rt; broken(s.equal(at(View::Home(9), 0), Pointer::Null)), 902);
     Ok(())
 }
 
 // The ways to the first byte of an object: its home, a loan over it, a loan over that, and one over that.
-fn ways(rt: &HostRuntime, s: &mut Storage) -> Result<[View; 4], Fail> {
+fn ways(rt: &impl Abort, alloc: Global, s: &mut Storage) -> Result<[View; 4], Fail> {
     let home = View::Home(eight(rt, s));
-    let one = View::Loan(done(rt, s.open_loan(first_bytes(rt.alloc(), home, 4)?, true)));
-    let two = View::Loan(done(rt, s.open_loan(first_bytes(rt.alloc(), one, 4)?, true)));
-    let three = View::Loan(done(rt, s.open_loan(first_bytes(rt.alloc(), two, 4)?, true)));
+    let one = View::Loan(done(rt, s.open_loan(first_bytes(alloc, home, 4)?, true)));
+    let two = View::Loan(done(rt, s.open_loan(first_bytes(alloc, one, 4)?, true)));
+    let three = View::Loan(done(rt, s.open_loan(first_bytes(alloc, two, 4)?, true)));
     Ok([home, one, two, three])
 }
 
@@ -131,7 +174,7 @@ fn every_pair_of_ways_through_nested_loans(rt: HostRuntime) -> Result<(), Fail> 
     for i in 0..4usize {
         for j in 0..4usize {
             let mut s = Storage::new(rt.alloc())?;
-            let way = ways(&rt, &mut s)?;
+            let way = ways(&rt, rt.alloc(), &mut s)?;
             // only the last loan has no other beside it
             let wrote = broken(s.write(at(way[i], 0), 1, &[Cell::Byte(9)]));
             assert_eq!(rt; wrote, if i == 3 { 0 } else { 907 });
@@ -148,7 +191,7 @@ fn every_pair_of_ways_through_nested_loans(rt: HostRuntime) -> Result<(), Fail> 
 #[test]
 fn what_was_written_through_a_loan_is_there_after_it_closes(rt: HostRuntime) -> Result<(), Fail> {
     let mut s = Storage::new(rt.alloc())?;
-    let way = ways(&rt, &mut s)?;
+    let way = ways(&rt, rt.alloc(), &mut s)?;
     assert_eq!(rt; broken(s.write(at(way[3], 0), 1, &[Cell::Byte(9)])), 0);
     assert!(rt; s.is_last(2));
     assert_eq!(rt; broken(s.close_loan(2)), 0);
@@ -162,8 +205,20 @@ fn what_was_written_through_a_loan_is_there_after_it_closes(rt: HostRuntime) -> 
     assert_eq!(rt; broken(s.close_loan(0)), 0);
     let cells = done(&rt, s.read(at(way[0], 0), 1, 1));
     assert_eq!(rt; cells.as_slice(), [Cell::Byte(9)].as_slice());
-    assert_eq!(rt; s.peek(Spot { view: way[0], offset: 1 }), Some(Cell::Byte(1)));
-    assert_eq!(rt; s.peek(Spot { view: way[1], offset: 0 }), None);
+    assert_eq!(rt;
+        s.peek(Spot {
+            view: way[0],
+            offset: 1
+        }),
+        Some(Cell::Byte(1))
+    );
+    assert_eq!(rt;
+        s.peek(Spot {
+            view: way[1],
+            offset: 0
+        }),
+        None
+    );
     assert!(rt; s.is_last(0));
     assert_eq!(rt; broken(s.close_loan(0)), 902);
     Ok(())

@@ -3,7 +3,7 @@ use Rattle.std.specs.Prelude.{Bool}
 use Rattle.storage_model.specs.Storage.{at}
 use Rattle.storage_model.specs.Chain.{none_beside, marks_against}
 use Rattle.storage_model.specs.Model.{model}
-use Rattle.storage_model.proofs.Tests.{each_from, each_fails}
+use Rattle.storage_model.proofs.Meanings.{each_from, each_fails}
 use Rattle.storage_model.proofs.storage.Storage.all_alone.Goals as goal
 
 pub returns-then-not-none_beside : goal.returns-then-not-none_beside

@@ -5,7 +5,7 @@ use Rattle.std.specs.List.{list_all}
 use Rattle.storage_model.specs.Storage.{at}
 use Rattle.storage_model.specs.Chain.{chain_of, not_read}
 use Rattle.storage_model.specs.Model.{model}
-use Rattle.storage_model.proofs.Tests.{each_from, each_fails}
+use Rattle.storage_model.proofs.Meanings.{each_from, each_fails}
 use Rattle.storage_model.proofs.storage.Storage.all_unread.Goals as goal
 
 pub returns-then-not-walk : goal.returns-then-not-walk
