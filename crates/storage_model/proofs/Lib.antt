@@ -14,3 +14,4 @@ pub mod Ending
 pub mod Stacks
 pub mod Opening
 pub mod Closing
+pub mod Lawful

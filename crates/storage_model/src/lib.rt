@@ -7,6 +7,7 @@ mod cell;
 mod chain;
 mod ends;
 mod held;
+mod laws;
 mod listing;
 mod loan;
 mod marks;
@@ -19,6 +20,7 @@ mod views;
 mod write;
 
 pub use cell::{Cell, Did, Kind, Pointer, Spot, View};
+pub use laws::{ended_objects_are_gone, read_gives_the_last_write, ways_exclude_one_another, writes_through_a_loan_arrive};
 pub use storage::Storage;
 
 #[cfg(test)]

@@ -60,12 +60,24 @@ fn a_write_through_a_loan_then_a_read_beside_it(rt: HostRuntime) -> Result<(), F
         &rt,
         s.open_loan(first_bytes(rt.alloc(), View::Home(o), 4)?, true),
     );
-    wants(&rt, broken(s.write(at(View::Loan(l), 0), 1, &[Cell::Byte(7)])), 0);
+    wants(
+        &rt,
+        broken(s.write(at(View::Loan(l), 0), 1, &[Cell::Byte(7)])),
+        0,
+    );
     wants(&rt, broken(s.read(at(View::Home(o), 0), 1, 1)), 907);
     wants(&rt, broken(s.read(at(View::Home(o), 1), 1, 1)), 0);
     wants(&rt, broken(s.read(at(View::Home(o), 4), 4, 1)), 0);
-    wants(&rt, broken(s.write(at(View::Home(o), 4), 1, &[Cell::Byte(2)])), 0);
-    wants(&rt, broken(s.write(at(View::Home(o), 3), 1, &[Cell::Byte(2)])), 907);
+    wants(
+        &rt,
+        broken(s.write(at(View::Home(o), 4), 1, &[Cell::Byte(2)])),
+        0,
+    );
+    wants(
+        &rt,
+        broken(s.write(at(View::Home(o), 3), 1, &[Cell::Byte(2)])),
+        907,
+    );
     wants(&rt, broken(s.end(o)), 907);
     Ok(())
 }
@@ -80,8 +92,16 @@ fn a_read_beside_a_loan_then_a_write_through_it(rt: HostRuntime) -> Result<(), F
     );
     let cells = done(&rt, s.read(at(View::Home(o), 0), 1, 1));
     has(&rt, &cells, &[Cell::Byte(1)]);
-    wants(&rt, broken(s.write(at(View::Loan(l), 0), 1, &[Cell::Byte(7)])), 907);
-    wants(&rt, broken(s.write(at(View::Loan(l), 1), 1, &[Cell::Byte(7)])), 0);
+    wants(
+        &rt,
+        broken(s.write(at(View::Loan(l), 0), 1, &[Cell::Byte(7)])),
+        907,
+    );
+    wants(
+        &rt,
+        broken(s.write(at(View::Loan(l), 1), 1, &[Cell::Byte(7)])),
+        0,
+    );
     Ok(())
 }
 
@@ -93,7 +113,11 @@ fn an_ended_object_is_used_no_more(rt: HostRuntime) -> Result<(), Fail> {
     wants(&rt, broken(s.end(gone)), 902);
     wants(&rt, broken(s.read(at(View::Home(gone), 0), 1, 1)), 902);
     wants(&rt, broken(s.read(at(View::Home(gone), 0), 0, 1)), 902);
-    wants(&rt, broken(s.equal(at(View::Home(gone), 0), Pointer::Null)), 902);
+    wants(
+        &rt,
+        broken(s.equal(at(View::Home(gone), 0), Pointer::Null)),
+        902,
+    );
     Ok(())
 }
 
@@ -102,7 +126,18 @@ fn points_of_an_access_come_in_order(rt: HostRuntime) -> Result<(), Fail> {
     let mut s = Storage::new(rt.alloc())?;
     let o = eight(&rt, &mut s);
     wants(&rt, broken(s.read(Pointer::Null, 1, 1)), 904);
-    wants(&rt, broken(s.read(Pointer::Proc { number: 0, proto: 0 }, 1, 1)), 901);
+    wants(
+        &rt,
+        broken(s.read(
+            Pointer::Proc {
+                number: 0,
+                proto: 0,
+            },
+            1,
+            1,
+        )),
+        901,
+    );
     wants(&rt, broken(s.read(at(View::Home(o), 5), 4, 4)), 901);
     wants(&rt, broken(s.read(at(View::Home(o), -1), 1, 1)), 901);
     wants(&rt, broken(s.read(at(View::Home(o), 2), 4, 4)), 905);
@@ -114,11 +149,19 @@ fn points_of_an_access_come_in_order(rt: HostRuntime) -> Result<(), Fail> {
 fn kinds_of_objects_are_kept_apart(rt: HostRuntime) -> Result<(), Fail> {
     let mut s = Storage::new(rt.alloc())?;
     let text = s.make(1, Kind::ReadOnly, &[Cell::Byte(65)])?;
-    wants(&rt, broken(s.write(at(View::Home(text), 0), 1, &[Cell::Byte(66)])), 906);
+    wants(
+        &rt,
+        broken(s.write(at(View::Home(text), 0), 1, &[Cell::Byte(66)])),
+        906,
+    );
     let described = s.make(24, Kind::Descriptor(0), &[])?;
     let whole = View::Home(described);
     wants(&rt, broken(s.read(at(whole, 0), 1, 1)), 921);
-    wants(&rt, broken(s.open_loan(first_bytes(rt.alloc(), whole, 1)?, true)), 921);
+    wants(
+        &rt,
+        broken(s.open_loan(first_bytes(rt.alloc(), whole, 1)?, true)),
+        921,
+    );
     wants(&rt, broken(s.end(described)), 0);
     let fresh = s.make(1, Kind::Plain, &[])?;
     let cells = done(&rt, s.read(at(View::Home(fresh), 0), 1, 1));
@@ -152,10 +195,21 @@ fn views_of_one_object_are_not_compared(rt: HostRuntime) -> Result<(), Fail> {
     let mut s = Storage::new(rt.alloc())?;
     let a = eight(&rt, &mut s);
     let b = eight(&rt, &mut s);
-    let l = done(&rt, s.open_loan(first_bytes(rt.alloc(), View::Home(a), 2)?, false));
-    wants(&rt, broken(s.equal(at(View::Loan(l), 0), at(View::Home(a), 0))), 911);
+    let l = done(
+        &rt,
+        s.open_loan(first_bytes(rt.alloc(), View::Home(a), 2)?, false),
+    );
+    wants(
+        &rt,
+        broken(s.equal(at(View::Loan(l), 0), at(View::Home(a), 0))),
+        911,
+    );
     assert!(rt; !are_equal(&rt, &s, at(View::Loan(l), 0), at(View::Home(b), 0)));
-    wants(&rt, broken(s.write(at(View::Loan(l), 0), 1, &[Cell::Byte(3)])), 906);
+    wants(
+        &rt,
+        broken(s.write(at(View::Loan(l), 0), 1, &[Cell::Byte(3)])),
+        906,
+    );
     Ok(())
 }
 
@@ -228,8 +282,18 @@ fn what_was_written_through_a_loan_is_there_after_it_closes(rt: HostRuntime) -> 
 fn a_look_sets_no_mark(rt: HostRuntime) -> Result<(), Fail> {
     let mut s = Storage::new(rt.alloc())?;
     let way = ways(&rt, rt.alloc(), &mut s)?;
-    assert!(rt; s.peek(Spot { view: way[0], offset: 1 }) == Some(Cell::Byte(1)));
-    assert!(rt; s.peek(Spot { view: way[3], offset: 4 }) == None);
+    assert!(rt;
+        s.peek(Spot {
+            view: way[0],
+            offset: 1
+        }) == Some(Cell::Byte(1))
+    );
+    assert!(rt;
+        s.peek(Spot {
+            view: way[3],
+            offset: 4
+        }) == None
+    );
     wants(&rt, broken(s.write(at(way[3], 1), 1, &[Cell::Byte(9)])), 0);
     Ok(())
 }
