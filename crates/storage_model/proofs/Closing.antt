@@ -1,6 +1,6 @@
 -- The end of a loan, of which none that was opened later is open.
-use Rattle.std.proofs.Common.{ℕ, zero, suc, ◌+◌, ◌≡◌, ◌≤◌, ◌<◌, ◌^◌, refl, sym, ◌∙◌, ap, subst, arith, ⊎_elim, List, [], ◌∷◌, length, get_or, set}
-use Rattle.std.specs.Prelude.{◌≢◌, Bool, true, false, ◌==◌, if◌then◌else◌}
+use Rattle.std.proofs.Common.{ℕ, ◌≡◌, ◌<◌, ◌^◌, refl, sym, ◌∙◌, ap, subst, arith, ⊎_elim, List, length, get_or, set}
+use Rattle.std.specs.Prelude.{◌≢◌, true, false, ◌==◌, if◌then◌else◌}
 use Rattle.std.specs.Global.{Vec}
 use Rattle.std.proofs.lemmas.List.{length-set}
 use Rattle.std.proofs.lemmas.Bool.{eq-eqb, ne_eqb, cond-true, cond-false, cases_lt}
@@ -17,9 +17,9 @@ use Rattle.storage_model.specs.Chain.{home_of}
 use Rattle.storage_model.specs.Loans.{close_one}
 use Rattle.storage_model.specs.Held.{IsHeld, facts, nth_loan, loan_of, no_byte, stack_at, in_stack}
 use Rattle.storage_model.specs.Listings.{IsLast, StandsGood}
-use Rattle.storage_model.proofs.Chains.{nat_or, loan_same}
+use Rattle.storage_model.proofs.Chains.{nat_or}
 use Rattle.storage_model.proofs.Nth.{nth_loan_at}
-use Rattle.storage_model.proofs.Grounds.{not_both, bound}
+use Rattle.storage_model.proofs.Grounds.{not_both}
 use Rattle.storage_model.proofs.Steps.{get_or_any}
 use Rattle.storage_model.proofs.Updates.{set_loan_here, set_loan_else}
 

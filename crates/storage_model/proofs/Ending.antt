@@ -1,26 +1,25 @@
 -- The end of an object that no open loan covers.
-use Rattle.std.proofs.Common.{ℕ, zero, suc, ◌+◌, ◌≡◌, ◌≤◌, ◌<◌, ◌^◌, refl, sym, ◌∙◌, ap, subst, inl, inr, arith, ⊎_elim, List, [], ◌∷◌, length, get_or, set}
-use Rattle.std.specs.Prelude.{◌≢◌, ◌⊎◌, Bool, true, false, not, ◌==◌, ◌&&◌, ◌||◌, ltb, if◌then◌else◌}
+use Rattle.std.proofs.Common.{ℕ, ◌≡◌, ◌<◌, ◌^◌, refl, sym, ◌∙◌, ap, subst, arith, ⊎_elim, List, length, get_or, set}
+use Rattle.std.specs.Prelude.{◌≢◌, true, false, not, ◌==◌, ◌&&◌, ltb, if◌then◌else◌}
 use Rattle.std.specs.Global.{Vec}
 use Rattle.std.specs.List.{list_any}
 use Rattle.std.proofs.lemmas.List.{length-set}
 use Rattle.std.proofs.lemmas.Bool.{eq-eqb, ne_eqb, cond-true, cond-false, and_from, lt-ltb, both_ways, not_from_true, not_from_false}
 use Rattle.storage_model.specs.declared.cell.View.{View}
 use Rattle.storage_model.specs.declared.cell.View.TheVariants.{Home, Loan}
-use Rattle.storage_model.specs.declared.cell.Place.{Place}
 use Rattle.storage_model.specs.declared.held.HeldObject.{HeldObject}
 use Rattle.storage_model.specs.declared.held.HeldLoan.{HeldLoan}
 use Rattle.storage_model.specs.declared.held.Cover.{Cover}
-use Rattle.storage_model.specs.Storage.{Storage, Object, at, places, is_live, size_of, has_cells, IsHome, Good}
+use Rattle.storage_model.specs.Storage.{Storage, Object, at, places, is_live, size_of, has_cells}
 use Rattle.storage_model.specs.Laws.{IsSound}
-use Rattle.storage_model.specs.Chain.{same_view, same_place, each_below, chain_of, home_of, is_open_byte, covers, passes, is_beside, none_beside, any_mark}
+use Rattle.storage_model.specs.Chain.{same_place, each_below, home_of, is_open_byte, covers, passes, is_beside, none_beside, any_mark}
 use Rattle.storage_model.specs.Ends.{end_one}
 use Rattle.storage_model.specs.Held.{IsHeld, facts, nth_object, object_of, cell_count, in_stack, stack_at}
 use Rattle.storage_model.specs.Reach.{IsUncovered}
 use Rattle.storage_model.proofs.Chains.{nat_or, place_at}
 use Rattle.storage_model.proofs.Nth.{nth_object_at}
 use Rattle.storage_model.proofs.Meanings.{each_at, place_iff}
-use Rattle.storage_model.proofs.Grounds.{good_loan, opened_if, chain_home, home_home, home_loan}
+use Rattle.storage_model.proofs.Grounds.{good_loan, opened_if, chain_home, home_loan}
 use Rattle.storage_model.proofs.Updates.{set_object_here, set_object_else, got_here, got_else}
 
 module _ (s : Storage) (laws : IsSound s) (n : ℕ) where

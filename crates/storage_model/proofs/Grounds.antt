@@ -1,15 +1,15 @@
 -- Under a good byte all bytes are good, and a chain goes down step by step.
-use Rattle.std.proofs.Common.{ℕ, zero, suc, ◌+◌, ◌≡◌, ◌<◌, refl, sym, ◌∙◌, ap, subst, inl, inr, arith, ⊎_elim, List, [], ◌∷◌}
-use Rattle.std.specs.Prelude.{◌⊎◌, Bool, true, false, ◌&&◌, ltb}
+use Rattle.std.proofs.Common.{ℕ, zero, suc, ◌≡◌, ◌<◌, refl, sym, ◌∙◌, ap, subst, inl, inr, arith, ⊎_elim, [], ◌∷◌}
+use Rattle.std.specs.Prelude.{◌⊎◌, Bool, true, false}
 use Rattle.std.specs.List.{list_all, list_any}
-use Rattle.std.proofs.lemmas.Bool.{cases_lt, cond-true, cond-false, lt-ltb, ltb-true, and_parts, and_from}
+use Rattle.std.proofs.lemmas.Bool.{cases_lt, cond-true, cond-false, lt-ltb}
 use Rattle.storage_model.specs.declared.cell.View.{View}
 use Rattle.storage_model.specs.declared.cell.View.TheVariants.{Home, Loan}
 use Rattle.storage_model.specs.declared.cell.Place.{Place}
-use Rattle.storage_model.specs.Storage.{Storage, at, by_view, places, On, Here, Below, IsHome, IsLive, is_live, size_of, is_memory, Good, Meets}
+use Rattle.storage_model.specs.Storage.{Storage, at, by_view, places, On, Here, Below, IsHome, IsLive, size_of, is_memory, Good, Meets}
 use Rattle.storage_model.specs.Laws.{IsSound}
 use Rattle.storage_model.specs.Chain.{same_place, chain, home, chain_of, home_of, in_range, passes}
-use Rattle.storage_model.proofs.Chains.{loan_same, home_or_loan, one_home, place_at}
+use Rattle.storage_model.proofs.Chains.{one_home}
 use Rattle.storage_model.proofs.Meanings.{all_chain, all_chain_from, any_chain, in_chain, home_found, chain_enough, home_enough, place_true}
 
 pub not_both : (b : Bool) → b ≡ true → b ≡ false → ⊥

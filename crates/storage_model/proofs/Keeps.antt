@@ -1,12 +1,12 @@
 -- What the vectors keep when a cell or a mark is set.
-use Rattle.std.proofs.Common.{ℕ, zero, suc, ◌+◌, ◌≡◌, ◌≤◌, ◌<◌, ◌^◌, refl, sym, ◌∙◌, ap, subst, arith, ⊎_elim, List, [], ◌∷◌, length, get_or, set}
-use Rattle.std.specs.Prelude.{◌≢◌, Bool, true, false, if◌then◌else◌}
+use Rattle.std.proofs.Common.{ℕ, ◌≡◌, ◌<◌, ◌^◌, sym, ◌∙◌, ap, subst, arith, ⊎_elim, List, length, get_or, set}
+use Rattle.std.specs.Prelude.{true, if◌then◌else◌}
 use Rattle.std.specs.Global.{Vec}
 use Rattle.std.proofs.lemmas.List.{length-set}
 use Rattle.std.proofs.lemmas.Bool.{cases_lt, cond-true}
 use Rattle.storage_model.proofs.Nth.{nth_loan_at, nth_loan_past, nth_object_at, nth_object_past}
 use Rattle.storage_model.specs.declared.cell.View.{View}
-use Rattle.storage_model.specs.declared.cell.View.TheVariants.{Home, Loan}
+use Rattle.storage_model.specs.declared.cell.View.TheVariants.{Loan}
 use Rattle.storage_model.specs.declared.cell.Place.{Place}
 use Rattle.storage_model.specs.declared.cell.Cell.{Cell}
 use Rattle.storage_model.specs.declared.held.HeldObject.{HeldObject}

@@ -1,6 +1,6 @@
 -- What follows from the definitions, in the words of the languages.
-use Rattle.std.proofs.Common.{ℕ, zero, suc, ◌+◌, ◌≡◌, ◌≤◌, ◌<◌, refl, sym, ◌∙◌, ap, subst, arith, ⊎_elim, List, [], ◌∷◌}
-use Rattle.std.specs.Prelude.{◌≢◌, Bool, true, false, not, ◌==◌, ◌&&◌, ◌||◌, ltb, if◌then◌else◌, Option, Some, None, ℤ, pos}
+use Rattle.std.proofs.Common.{ℕ, ◌+◌, ◌≡◌, refl, sym, ◌∙◌, ap, subst, arith}
+use Rattle.std.specs.Prelude.{◌≢◌, Bool, true, false, not, ◌==◌, ◌&&◌, ◌||◌, ltb, if◌then◌else◌, Some, None, ℤ, pos}
 use Rattle.std.specs.List.{list_all}
 use Rattle.std.proofs.lemmas.Bool.{and_parts, and_from, and_left, and_right, or_left, lt-ltb, cond-true, cond-false, eq-eqb, ltb-true, not_from_true, not_from_false, false_from_ne_true}
 use Rattle.storage_model.specs.declared.cell.View.{View}
@@ -9,20 +9,18 @@ use Rattle.storage_model.specs.declared.cell.Place.{Place}
 use Rattle.storage_model.specs.declared.cell.Cell.{Cell}
 use Rattle.storage_model.specs.declared.cell.Cell.TheVariants.{Undefined}
 use Rattle.storage_model.specs.declared.cell.Pointer.TheVariants.{At}
-use Rattle.storage_model.specs.declared.cell.Did.TheVariants.{Violation}
 use Rattle.storage_model.specs.Tags.{V02, V07}
-use Rattle.storage_model.specs.Storage.{Storage, at, by_view, places, is_live, is_memory, size_of, IsHome, Good, On}
+use Rattle.storage_model.specs.Storage.{Storage, at, by_view, places, is_live, is_memory, IsHome, Good, On}
 use Rattle.storage_model.specs.Laws.{IsSound}
-use Rattle.storage_model.specs.Chain.{same_place, chain_of, home_of, cell_under, each_below, each_byte, aligned_to, may_write, not_read, is_open_byte, covers, passes, is_beside, none_beside, written_marks, any_mark}
+use Rattle.storage_model.specs.Chain.{same_place, chain_of, home_of, cell_under, each_below, aligned_to, may_write, not_read, is_open_byte, covers, passes, is_beside, none_beside, written_marks, any_mark}
 use Rattle.storage_model.specs.Access.{first, check_read, check_write, read_points, write_points, write_one, read_one}
 use Rattle.storage_model.specs.Ends.{check_end, end_one}
 use Rattle.storage_model.specs.Loans.{close_one}
-use Rattle.storage_model.specs.Pointers.{moved_by, guard, in_view}
 use Rattle.storage_model.specs.Reach.{GoodBytes}
-use Rattle.storage_model.proofs.Chains.{place_at, place_same, on_trans, one_home}
+use Rattle.storage_model.proofs.Chains.{place_at, on_trans, one_home}
 use Rattle.storage_model.proofs.Meanings.{each_fails, place_iff, place_true}
 use Rattle.storage_model.proofs.Grounds.{opened_if, good_chain, home_on, home_home, passes_on, on_passes, chain_all}
-use Rattle.storage_model.proofs.Points.{access_dead, access_inside, read_rest, write_rest, first_true}
+use Rattle.storage_model.proofs.Points.{access_dead, access_inside, read_rest, write_rest}
 use Rattle.storage_model.proofs.Ending.{uncovered_from, sound_end}
 
 pub sound_write : (s : Storage) (p : Place) (c : Cell) → IsSound s → IsSound (write_one s p c)
@@ -143,7 +141,7 @@ read_then_write s laws p q gp gq one l k on off a al wr mem =
     let laws' = sound_read s q laws in
     let g' : Good s' p = record { live = gp.live; within = gp.within } in
     let marked : not ((is_beside s q l k) || (s.loan l).read k) ≡ false =
-        not_from_true (is_beside s q l k || (s.loan l).read k) (or_left (is_beside s q l k) ((s.loan l).read k) (beside s laws p q gp gq one l k on off)) in
+    not_from_true (is_beside s q l k || (s.loan l).read k) (or_left (is_beside s q l k) ((s.loan l).read k) (beside s laws p q gp gq one l k on off)) in
     write_refused s' laws' p a g' al wr mem
     (false_from_ne_true (list_all (not_read s') (chain_of s' p)) (λ t. let u = chain_all s' laws' (not_read s') g' t on in cc))
 

@@ -1,15 +1,14 @@
 -- The bytes of loans that are listed at a home byte are all that can be beside an access to it.
-use Rattle.std.proofs.Common.{ℕ, zero, suc, ◌+◌, ◌≡◌, ◌≤◌, ◌<◌, refl, sym, ◌∙◌, ap, subst, arith, ⊎_elim, List, [], ◌∷◌, length, get_or}
-use Rattle.std.specs.Prelude.{Bool, true, false, not, ◌==◌, ◌&&◌, ◌||◌, ltb}
-use Rattle.std.specs.List.{list_any}
-use Rattle.std.proofs.lemmas.Bool.{and_parts, and_from, or_cases, eqb-true, ltb-true, not_from_true, true_from_ne_false, false_from_ne_true, not_from_false, cases_Bool}
-use Rattle.storage_model.specs.declared.cell.View.TheVariants.{Home, Loan}
+use Rattle.std.proofs.Common.{ℕ, suc, ◌≡◌, ◌<◌, sym, ◌∙◌, ap, subst, arith, ⊎_elim, List, [], ◌∷◌, length, get_or}
+use Rattle.std.specs.Prelude.{Bool, true, false, not, ◌==◌, ◌&&◌, ltb}
+use Rattle.std.proofs.lemmas.Bool.{and_parts, or_cases, eqb-true, ltb-true, not_from_true, false_from_ne_true, not_from_false}
+use Rattle.storage_model.specs.declared.cell.View.TheVariants.{Loan}
 use Rattle.storage_model.specs.declared.cell.Place.{Place}
 use Rattle.storage_model.specs.declared.held.Cover.{Cover}
 use Rattle.storage_model.specs.declared.storage.Storage.{Storage}
 use Rattle.storage_model.specs.Storage as M
 use Rattle.storage_model.specs.Storage.{at, Good}
-use Rattle.storage_model.specs.Chain.{each_below, home_of, covers, passes, same_place, is_open_byte, is_beside, none_beside}
+use Rattle.storage_model.specs.Chain.{each_below, home_of, covers, passes, is_open_byte, is_beside, none_beside}
 use Rattle.storage_model.specs.Held.{in_stack, stack_at}
 use Rattle.storage_model.specs.Model.{model}
 use Rattle.storage_model.proofs.Meanings.{each_from, each_fails, place_true}

@@ -1,6 +1,6 @@
 -- One more object.
-use Rattle.std.proofs.Common.{ℕ, zero, suc, ◌+◌, ◌≡◌, ◌≤◌, ◌<◌, ◌^◌, refl, sym, ◌∙◌, ap, subst, inl, inr, arith, ⊎_elim, List, [], ◌∷◌, ◌++◌, length, get_or, length-append}
-use Rattle.std.specs.Prelude.{◌≢◌, ◌⊎◌, Bool, true, false, ◌==◌, if◌then◌else◌}
+use Rattle.std.proofs.Common.{ℕ, zero, suc, ◌≡◌, ◌≤◌, ◌<◌, ◌^◌, refl, sym, ◌∙◌, ap, subst, arith, ⊎_elim, List, [], ◌∷◌, ◌++◌, length, get_or}
+use Rattle.std.specs.Prelude.{◌≢◌, true, ◌==◌, if◌then◌else◌}
 use Rattle.std.specs.Global.{Vec}
 use Rattle.std.proofs.lemmas.Bool.{eq-eqb, ne_eqb, cond-true, cond-false}
 use Rattle.storage_model.specs.declared.cell.View.{View}
@@ -9,7 +9,7 @@ use Rattle.storage_model.specs.declared.cell.Place.{Place}
 use Rattle.storage_model.specs.declared.held.HeldObject.{HeldObject}
 use Rattle.storage_model.specs.declared.held.HeldLoan.{HeldLoan}
 use Rattle.storage_model.specs.declared.held.Cover.{Cover}
-use Rattle.storage_model.specs.Storage.{Storage, Object, at, by_view, places, is_memory, has_cells, size_of, is_live, Good, no_object}
+use Rattle.storage_model.specs.Storage.{Storage, Object, at, by_view, places, is_memory, has_cells, size_of, is_live, Good}
 use Rattle.storage_model.specs.Laws.{IsSound}
 use Rattle.storage_model.specs.Chain.{home_of}
 use Rattle.storage_model.specs.Ends.{make_one}

@@ -1,12 +1,12 @@
 -- Tests over chains mean what the relations say, and a chain's length in a definition is only an upper bound.
-use Rattle.std.proofs.Common.{ℕ, zero, suc, ◌+◌, ◌≡◌, ◌<◌, refl, sym, ◌∙◌, ap, subst, inl, inr, arith, ⊎_elim, List, [], ◌∷◌}
-use Rattle.std.specs.Prelude.{◌⊎◌, Bool, true, false, not, ◌==◌, ◌&&◌, ◌||◌}
+use Rattle.std.proofs.Common.{ℕ, zero, suc, ◌≡◌, ◌<◌, refl, sym, ◌∙◌, ap, subst, arith, ⊎_elim, [], ◌∷◌}
+use Rattle.std.specs.Prelude.{◌⊎◌, Bool, true, false, ◌==◌, ◌&&◌}
 use Rattle.std.specs.List.{list_all, list_any}
 use Rattle.std.proofs.lemmas.Bool.{and_parts, and_from, or_cases, or_left, or_right, eqb-true, eq-eqb, false_from_ne_true}
 use Rattle.storage_model.specs.declared.cell.View.{View}
 use Rattle.storage_model.specs.declared.cell.View.TheVariants.{Home, Loan}
 use Rattle.storage_model.specs.declared.cell.Place.{Place}
-use Rattle.storage_model.specs.Storage.{at, by_view, On, Here, Below, IsHome}
+use Rattle.storage_model.specs.Storage.{by_view, On, Here, Below, IsHome}
 use Rattle.storage_model.specs.Chain.{same_view, same_place, chain, home, each_below}
 use Rattle.storage_model.proofs.Chains.{place_same, home_or_loan}
 

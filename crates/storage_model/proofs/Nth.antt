@@ -1,5 +1,5 @@
 -- The objects and loans of the lists, by their numbers.
-use Rattle.std.proofs.Common.{ℕ, zero, suc, ◌≡◌, ◌≤◌, ◌<◌, refl, sym, ◌∙◌, ap, arith, List, [], ◌∷◌, length, get_or}
+use Rattle.std.proofs.Common.{ℕ, zero, suc, ◌≡◌, ◌≤◌, ◌<◌, refl, sym, ap, arith, List, [], ◌∷◌, length, get_or}
 use Rattle.storage_model.specs.declared.held.HeldObject.{HeldObject}
 use Rattle.storage_model.specs.declared.held.HeldLoan.{HeldLoan}
 use Rattle.std.specs.Global.{Vec}

@@ -1,5 +1,5 @@
 -- One more loan.
-use Rattle.std.proofs.Common.{ℕ, zero, suc, ◌+◌, ◌≡◌, ◌≤◌, ◌<◌, ◌^◌, refl, sym, ◌∙◌, ap, subst, inl, inr, arith, ⊎_elim, List, [], ◌∷◌, ◌++◌, length, get_or}
+use Rattle.std.proofs.Common.{ℕ, zero, suc, ◌≡◌, ◌≤◌, ◌<◌, ◌^◌, refl, sym, ◌∙◌, ap, subst, arith, ⊎_elim, List, [], ◌∷◌, ◌++◌, length, get_or}
 use Rattle.std.specs.Prelude.{◌≢◌, ◌⊎◌, Bool, true, false, ◌==◌, ltb, if◌then◌else◌, map, ℤ, pos, negsuc}
 use Rattle.std.specs.List.{list_all}
 use Rattle.std.specs.Global.{Vec}
@@ -22,7 +22,7 @@ use Rattle.storage_model.specs.Access.{by_offset}
 use Rattle.storage_model.specs.Loans.{spot_in_range, place_of, new_loan, open_one}
 use Rattle.storage_model.specs.Held.{IsHeld, facts, nth_loan, loan_of, no_byte, stack_at, in_stack}
 use Rattle.storage_model.specs.Listings.{PlacesGood, PlacesListed, fresh_byte, lent}
-use Rattle.storage_model.proofs.Chains.{nat_or, loan_same, loan_no_home}
+use Rattle.storage_model.proofs.Chains.{nat_or, loan_no_home}
 use Rattle.storage_model.proofs.Meanings.{home_enough}
 use Rattle.storage_model.proofs.Grounds.{not_both, bound, home_loan}
 use Rattle.storage_model.proofs.Steps.{get_or_past}

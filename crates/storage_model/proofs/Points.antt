@@ -1,21 +1,20 @@
 -- The first points of an access rest on its pointer's own view alone.
-use Rattle.std.proofs.Common.{ℕ, zero, suc, ◌+◌, ◌≡◌, ◌≤◌, ◌<◌, refl, sym, ◌∙◌, ap, subst, inl, inr, arith, ⊎_elim, List, [], ◌∷◌}
-use Rattle.std.specs.Prelude.{◌⊎◌, Bool, true, false, ◌&&◌, ltb, Option, Some, None, ℤ, pos, negsuc}
+use Rattle.std.proofs.Common.{ℕ, zero, suc, ◌+◌, ◌≡◌, ◌≤◌, ◌<◌, refl, ◌∙◌, ap, arith, ⊎_elim, [], ◌∷◌}
+use Rattle.std.specs.Prelude.{Bool, true, false, ◌&&◌, Option, Some, None, ℤ, pos, negsuc}
 use Rattle.std.specs.List.{list_all}
-use Rattle.std.proofs.lemmas.Bool.{cases_Bool, cases_lt, and_from, and_left, and_right, cond_both, cond-true, cond-false, lt-ltb, le-ltb, false_from_ne_true, ltb-true}
+use Rattle.std.proofs.lemmas.Bool.{cases_Bool, and_from, and_left, and_right, cond_both, cond-true, cond-false, lt-ltb, le-ltb, ltb-true}
 use Rattle.jf_base.specs.declared.tag.Tag.{Tag}
 use Rattle.storage_model.specs.declared.cell.View.{View}
-use Rattle.storage_model.specs.declared.cell.View.TheVariants.{Home, Loan}
 use Rattle.storage_model.specs.declared.cell.Place.{Place}
 use Rattle.storage_model.specs.declared.cell.Pointer.TheVariants.{At}
 use Rattle.storage_model.specs.Tags.{V01, V02, V05, V06, V07, V21}
-use Rattle.storage_model.specs.Storage.{Storage, at, by_view, places, is_live, is_memory, has_cells, size_of, Good, On}
+use Rattle.storage_model.specs.Storage.{Storage, at, places, is_live, is_memory, size_of, Good}
 use Rattle.storage_model.specs.Laws.{IsSound}
 use Rattle.storage_model.specs.Chain.{chain, chain_of, in_range, each_below, each_byte, aligned_to, may_write, not_read, none_beside, written_marks, any_mark, cell_under}
 use Rattle.storage_model.specs.Access.{first, check_access, offset_of, read_points, write_points, peek_at}
 use Rattle.storage_model.specs.Reach.{GoodBytes}
-use Rattle.storage_model.proofs.Meanings.{each_from, each_fails, each_at, one_test}
-use Rattle.storage_model.proofs.Grounds.{good_chain, memory_chain, chain_all, chain_all_from, chain_outside, chain_good}
+use Rattle.storage_model.proofs.Meanings.{each_from, each_fails}
+use Rattle.storage_model.proofs.Grounds.{good_chain, memory_chain, chain_all_from, chain_outside}
 
 pub first_true : (b : Bool) (t : Tag) (rest : Option Tag) → b ≡ true → first b t rest ≡ rest
 first_true b t rest e = ap (λ x. first x t rest) e

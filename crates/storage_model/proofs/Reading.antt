@@ -1,10 +1,9 @@
 -- A read marks each byte of a loan that is beside it, and nothing else.
 use Rattle.std.proofs.Common.{ℕ, zero, suc, ◌+◌, ◌-◌, ◌≡◌, ◌≤◌, ◌<◌, refl, sym, ◌∙◌, ap, subst, inl, inr, arith, ⊎_elim, below_more, List, [], ◌∷◌, ◌++◌, length, get_or}
-use Rattle.std.specs.Prelude.{◌⊎◌, Bool, true, false, ◌==◌, ◌&&◌, ◌||◌, ltb}
-use Rattle.std.proofs.lemmas.Bool.{and_parts, or_cases, or_left, or_right, eqb-true, ltb-true, cases_Bool}
+use Rattle.std.specs.Prelude.{◌⊎◌, Bool, true, false, ◌==◌, ◌||◌}
+use Rattle.std.proofs.lemmas.Bool.{and_parts, or_cases, or_left, or_right, eqb-true}
 use Rattle.storage_model.specs.declared.cell.View.{View}
 use Rattle.storage_model.specs.declared.cell.Place.{Place}
-use Rattle.storage_model.specs.declared.cell.Cell.{Cell}
 use Rattle.storage_model.specs.declared.held.Cover.{Cover}
 use Rattle.storage_model.specs.declared.storage.Storage.{Storage}
 use Rattle.storage_model.specs.Storage as M
@@ -17,7 +16,6 @@ use Rattle.storage_model.specs.Reach.{GoodBytes}
 use Rattle.storage_model.specs.Model.{model}
 use Rattle.storage_model.proofs.Meanings.{one_test}
 use Rattle.storage_model.proofs.Listed.{in_stack_at, beside_listed, open_byte}
-use Rattle.storage_model.proofs.Steps.{get_or_any}
 use Rattle.storage_model.proofs.Updates.{at_here}
 
 -- how far the marks of a read of byte p have come: those of the first n listed bytes that are beside it

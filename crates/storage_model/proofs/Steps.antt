@@ -1,15 +1,14 @@
 -- One step down a chain in the vectors.
-use Rattle.std.proofs.Common.{ℕ, zero, suc, ◌+◌, ◌≡◌, ◌≤◌, ◌<◌, refl, sym, ◌∙◌, ap, subst, arith, ⊎_elim, List, [], ◌∷◌, length, get_or}
+use Rattle.std.proofs.Common.{ℕ, zero, suc, ◌≡◌, ◌≤◌, ◌<◌, refl, sym, ◌∙◌, ap, subst, arith, List, [], ◌∷◌, length, get_or}
 use Rattle.std.specs.Prelude.{Bool, true, false, ◌&&◌, ◌||◌}
 use Rattle.std.specs.List.{list_all, list_any}
-use Rattle.std.proofs.lemmas.Bool.{cases_lt}
 use Rattle.storage_model.specs.declared.cell.View.{View}
 use Rattle.storage_model.specs.declared.cell.View.TheVariants.{Home, Loan}
 use Rattle.storage_model.specs.declared.cell.Place.{Place}
 use Rattle.storage_model.specs.declared.held.HeldLoan.{HeldLoan}
 use Rattle.storage_model.specs.declared.held.LoanByte.{LoanByte}
 use Rattle.storage_model.specs.declared.storage.Storage.{Storage}
-use Rattle.storage_model.specs.Storage.{at, places, is_memory, Good}
+use Rattle.storage_model.specs.Storage.{places, is_memory, Good}
 use Rattle.storage_model.specs.Chain.{chain_of, home_of}
 use Rattle.storage_model.specs.Held.{no_byte}
 use Rattle.storage_model.specs.Model.{model}

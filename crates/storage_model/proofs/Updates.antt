@@ -1,9 +1,8 @@
 -- One element of the vectors is set.
-use Rattle.std.proofs.Common.{ℕ, zero, suc, ◌+◌, ◌≡◌, ◌≤◌, ◌<◌, refl, sym, ◌∙◌, ap, subst, inl, inr, arith, ⊎_elim, List, [], ◌∷◌, length, get_or, set}
-use Rattle.std.specs.Prelude.{◌≢◌, ◌⊎◌, Bool, true, false, ◌==◌, ◌&&◌, ◌||◌, if◌then◌else◌}
+use Rattle.std.proofs.Common.{ℕ, zero, suc, ◌≡◌, ◌<◌, refl, sym, ◌∙◌, ap, subst, arith, ⊎_elim, List, [], ◌∷◌, length, get_or, set}
+use Rattle.std.specs.Prelude.{◌≢◌, Bool, true, false, ◌==◌, ◌||◌, if◌then◌else◌}
 use Rattle.std.proofs.lemmas.Bool.{eq-eqb, ne_eqb, and_from, and_left, and_right, cond-true, cond-false}
 use Rattle.std.proofs.lemmas.List.{length-set}
-use Rattle.storage_model.specs.declared.cell.Place.{Place}
 use Rattle.storage_model.specs.declared.cell.Cell.{Cell}
 use Rattle.storage_model.specs.declared.cell.Cell.TheVariants.{Undefined}
 use Rattle.storage_model.specs.declared.held.HeldObject.{HeldObject}

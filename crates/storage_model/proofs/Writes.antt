@@ -1,5 +1,5 @@
 -- A write goes down a chain, mark by mark, and puts the cell at its end.
-use Rattle.std.proofs.Common.{ℕ, zero, suc, ◌+◌, ◌≡◌, ◌≤◌, ◌<◌, refl, sym, ◌∙◌, ap, subst, arith, List, [], ◌∷◌, length, get_or, drop, drop-cons, add-one}
+use Rattle.std.proofs.Common.{ℕ, ◌+◌, ◌≡◌, ◌<◌, refl, sym, ◌∙◌, ap, subst, arith, List, ◌∷◌, length, get_or, drop, drop-cons, add-one}
 use Rattle.std.specs.Prelude.{Bool, true, false, ◌==◌, ◌&&◌, ◌||◌, if◌then◌else◌}
 use Rattle.std.specs.List.{list_any}
 use Rattle.std.proofs.lemmas.Bool.{eqb-true, eq-eqb}
@@ -7,9 +7,9 @@ use Rattle.storage_model.specs.declared.cell.View.{View}
 use Rattle.storage_model.specs.declared.cell.View.TheVariants.{Home, Loan}
 use Rattle.storage_model.specs.declared.cell.Place.{Place}
 use Rattle.storage_model.specs.declared.cell.Cell.{Cell}
-use Rattle.storage_model.specs.Storage.{Storage, at, places, Good, IsHome, is_memory}
+use Rattle.storage_model.specs.Storage.{Storage, at, places, Good, IsHome}
 use Rattle.storage_model.specs.Laws.{IsSound}
-use Rattle.storage_model.specs.Chain.{same_view, same_place, chain_of, home_of, passes}
+use Rattle.storage_model.specs.Chain.{same_view, same_place, home_of, passes}
 use Rattle.storage_model.specs.Access.{write_one, write_all}
 use Rattle.storage_model.specs.Marks.{is_at, cell_set, written_set}
 use Rattle.storage_model.specs.Reach.{GoodBytes}

@@ -3,10 +3,10 @@
 -- a write beside an open loan is refused; a read beside it is refused once the byte was written through the loan; and a write through the loan
 -- is refused once the byte was read beside it.
 use Rattle.std.specs.Prelude.{ℕ, zero, suc, ◌+◌, Bool, true, false, ◌&&◌, ◌||◌, if◌then◌else◌, List, [], ◌∷◌, Option, Some, None, ℤ, pos, negsuc}
-use Rattle.std.specs.List.{list_all, list_any}
+use Rattle.std.specs.List.{list_all}
 use Rattle.jf_base.specs.declared.tag.Tag.{Tag}
 use Rattle.storage_model.specs.declared.cell.View.{View}
-use Rattle.storage_model.specs.declared.cell.View.TheVariants.{Home, Loan}
+use Rattle.storage_model.specs.declared.cell.View.TheVariants.{Home}
 use Rattle.storage_model.specs.declared.cell.Place.{Place}
 use Rattle.storage_model.specs.declared.cell.Spot.{Spot}
 use Rattle.storage_model.specs.declared.cell.Cell.{Cell}

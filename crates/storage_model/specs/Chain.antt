@@ -1,11 +1,11 @@
 -- The chain of a byte, and what is asked of the views in it.
-use Rattle.std.specs.Prelude.{ℕ, zero, suc, ◌+◌, ◌%◌, Bool, true, false, not, ◌==◌, ◌&&◌, ◌||◌, if◌then◌else◌, List, [], ◌∷◌, ltb}
+use Rattle.std.specs.Prelude.{ℕ, zero, suc, ◌+◌, ◌%◌, Bool, true, false, not, ◌==◌, ◌&&◌, if◌then◌else◌, List, [], ◌∷◌, ltb}
 use Rattle.std.specs.List.{list_all, list_any}
 use Rattle.storage_model.specs.declared.cell.View.{View}
 use Rattle.storage_model.specs.declared.cell.View.TheVariants.{Home, Loan}
 use Rattle.storage_model.specs.declared.cell.Place.{Place}
 use Rattle.storage_model.specs.declared.cell.Cell.{Cell}
-use Rattle.storage_model.specs.Storage.{Storage, at, by_view, places, size_of, is_live, can_write, is_memory, cell_at}
+use Rattle.storage_model.specs.Storage.{Storage, at, by_view, places, size_of, can_write, cell_at}
 
 abbrev pub same_view : View → View → Bool
 same_view (Home o) (Home p) = o == p

@@ -1,7 +1,7 @@
 -- Making and ending an object (ISO/IEC 9899:2011 6.2.4; ISO/IEC 1539-1:2018 9.7.1 and 9.7.3).
-use Rattle.std.specs.Prelude.{ℕ, Bool, true, false, ◌==◌, if◌then◌else◌, List, Option, Some, None, get_or}
+use Rattle.std.specs.Prelude.{ℕ, true, false, ◌==◌, if◌then◌else◌, List, Option, None, get_or}
 use Rattle.jf_base.specs.declared.tag.Tag.{Tag}
-use Rattle.storage_model.specs.declared.cell.View.TheVariants.{Home, Loan}
+use Rattle.storage_model.specs.declared.cell.View.TheVariants.{Home}
 use Rattle.storage_model.specs.declared.cell.Cell.{Cell}
 use Rattle.storage_model.specs.declared.cell.Cell.TheVariants.{Undefined}
 use Rattle.storage_model.specs.declared.cell.Kind.{Kind}

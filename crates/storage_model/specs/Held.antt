@@ -3,9 +3,8 @@ use Rattle.std.specs.Prelude.{◌≡◌, ℕ, zero, suc, ◌<◌, ◌≤◌, ◌
 use Rattle.std.specs.List.{list_any}
 use Rattle.std.specs.Global.{Vec}
 use Rattle.storage_model.specs.declared.cell.View.{View}
-use Rattle.storage_model.specs.declared.cell.View.TheVariants.{Home, Loan}
+use Rattle.storage_model.specs.declared.cell.View.TheVariants.{Loan}
 use Rattle.storage_model.specs.declared.cell.Place.{Place}
-use Rattle.storage_model.specs.declared.cell.Cell.{Cell}
 use Rattle.storage_model.specs.declared.cell.Cell.TheVariants.{Undefined}
 use Rattle.storage_model.specs.declared.held.HeldObject.{HeldObject}
 use Rattle.storage_model.specs.declared.held.LoanByte.{LoanByte}

@@ -1,8 +1,7 @@
 -- The laws of a storage that every step keeps.
-use Rattle.std.specs.Prelude.{◌≡◌, ℕ, ◌<◌, ◌≤◌, Bool, true, false}
-use Rattle.storage_model.specs.declared.cell.View.TheVariants.{Home, Loan}
-use Rattle.storage_model.specs.declared.cell.Cell.TheVariants.{Undefined}
-use Rattle.storage_model.specs.Storage.{Storage, at, places, is_memory, has_cells, On, Good, Meets}
+use Rattle.std.specs.Prelude.{◌≡◌, ℕ, ◌<◌, ◌≤◌, true, false}
+use Rattle.storage_model.specs.declared.cell.View.TheVariants.{Loan}
+use Rattle.storage_model.specs.Storage.{Storage, places, is_memory, Good}
 
 -- what chains rest on
 pub record IsSound (s : Storage) : Type 0 where

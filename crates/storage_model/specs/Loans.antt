@@ -1,13 +1,12 @@
 -- Opening and closing a loan: an array dummy becomes associated with the bytes of its actual argument, and the association ends at the return
 -- (ISO/IEC 1539-1:2018 15.5.2.4, 15.5.2.11 and 15.5.2.13).
-use Rattle.std.specs.Prelude.{ℕ, zero, Bool, true, false, ◌==◌, if◌then◌else◌, List, length, map, Option, Some, None, get_or, ltb, ℤ, pos, negsuc}
+use Rattle.std.specs.Prelude.{ℕ, zero, Bool, true, false, ◌==◌, if◌then◌else◌, List, length, Option, None, get_or, ltb}
 use Rattle.std.specs.List.{list_all}
 use Rattle.jf_base.specs.declared.tag.Tag.{Tag}
 use Rattle.storage_model.specs.declared.cell.Place.{Place}
 use Rattle.storage_model.specs.declared.cell.Spot.{Spot}
 use Rattle.storage_model.specs.Tags.{V01, V02, V21}
 use Rattle.storage_model.specs.Storage.{Storage, Lending, at, outside, is_live, is_memory, size_of, with_loan, with_open}
-use Rattle.storage_model.specs.Chain.{each_below}
 use Rattle.storage_model.specs.Access.{first, by_offset}
 
 -- the offset is that of a byte of the view

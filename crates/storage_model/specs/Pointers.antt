@@ -1,5 +1,5 @@
 -- Arithmetic and comparison of pointers (ISO/IEC 9899:2011 6.5.6, 6.5.8 and 6.5.9).
-use Rattle.std.specs.Prelude.{ℕ, zero, suc, Bool, true, false, not, ◌==◌, ◌&&◌, if◌then◌else◌, Option, Some, None, leb, ℤ, pos, negsuc, ◌+ℤ◌, ◌-ℤ◌}
+use Rattle.std.specs.Prelude.{ℕ, Bool, true, false, not, ◌==◌, ◌&&◌, if◌then◌else◌, Option, Some, None, leb, ℤ, pos, negsuc, ◌+ℤ◌, ◌-ℤ◌}
 use Rattle.jf_base.specs.declared.tag.Tag.{Tag}
 use Rattle.storage_model.specs.declared.cell.View.{View}
 use Rattle.storage_model.specs.declared.cell.View.TheVariants.{Home, Loan}

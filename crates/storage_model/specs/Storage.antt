@@ -1,7 +1,7 @@
 -- Objects, loans, and the bytes of their views.
 -- An object is a region of data storage with a lifetime (ISO/IEC 9899:2011 3.15 and 6.2.4). A loan is an argument association of an array dummy
 -- (ISO/IEC 1539-1:2018 15.5.2.4 and 15.5.2.11): its bytes stand for the bytes of the actual argument, of which no copy is made.
-use Rattle.std.specs.Prelude.{◌≡◌, ◌≢◌, ℕ, suc, ◌<◌, ◌⊎◌, Bool, true, false}
+use Rattle.std.specs.Prelude.{◌≡◌, ◌≢◌, ℕ, suc, ◌<◌, Bool, true, false}
 use Rattle.storage_model.specs.declared.cell.View.{View}
 use Rattle.storage_model.specs.declared.cell.View.TheVariants.{Home, Loan}
 use Rattle.storage_model.specs.declared.cell.Place.{Place}

@@ -20,7 +20,10 @@ mod views;
 mod write;
 
 pub use cell::{Cell, Did, Kind, Pointer, Spot, View};
-pub use laws::{ended_objects_are_gone, read_gives_the_last_write, ways_exclude_one_another, writes_through_a_loan_arrive};
+pub use laws::{
+    ended_objects_are_gone, read_gives_the_last_write, ways_exclude_one_another,
+    writes_through_a_loan_arrive,
+};
 pub use storage::Storage;
 
 #[cfg(test)]

@@ -1,4 +1,4 @@
-use Rattle.std.proofs.Common.{◌≡◌, ℕ, ◌≤◌, ◌-◌, length, get_or, vec_len}
+use Rattle.std.proofs.Common.{◌≡◌, ℕ, ◌≤◌, ◌-◌, get_or, vec_len}
 use Rattle.storage_model.specs.declared.cell.Cell.TheVariants.{Undefined}
 use Rattle.storage_model.proofs.ends.filled.Given as goal
 

@@ -1,6 +1,5 @@
-use Rattle.std.proofs.Common.{◌≡◌, ℕ, ◌+◌, ◌<◌, sym, ◌∙◌, ap, subst, arith, length, List, [], ◌∷◌, ◌++◌}
+use Rattle.std.proofs.Common.{◌≡◌, sym, ◌∙◌, ap, subst, arith}
 use Rattle.std.specs.Prelude.{true}
-use Rattle.std.proofs.lemmas.Bool.{cond_both}
 use Rattle.storage_model.specs.Held.{in_stack, nth_stack}
 use Rattle.storage_model.proofs.Stacks.{stack_pushed, table_set, set_stack_here, in_longer, in_end}
 use Rattle.storage_model.proofs.listing.push_cover.Goals as goal

@@ -1,8 +1,7 @@
-use Rattle.std.proofs.Common.{◌≡◌, ℕ, ◌<◌, refl, sym, ◌∙◌, ap, subst, arith, length, List, [], ◌∷◌, ◌++◌}
-use Rattle.std.specs.Prelude.{is_ok, if◌then◌else◌}
+use Rattle.std.proofs.Common.{sym, ◌∙◌, ap, subst, [], ◌∷◌, ◌++◌}
+use Rattle.std.specs.Prelude.{is_ok}
 use Rattle.std.proofs.lemmas.Bool.{cond_both}
 use Rattle.storage_model.specs.Held.{IsHeld, facts}
-use Rattle.storage_model.specs.Model.{model}
 use Rattle.storage_model.proofs.Making.{held_table, held_make, make_facts, room_pushed}
 use Rattle.storage_model.proofs.storage.Storage.add_object.Goals as goal
 

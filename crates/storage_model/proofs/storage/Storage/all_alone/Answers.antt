@@ -1,4 +1,4 @@
-use Rattle.std.proofs.Common.{◌≡◌, ℕ, ◌+◌, ◌<◌, sym, ◌∙◌, arith}
+use Rattle.std.proofs.Common.{ℕ, ◌+◌, sym, ◌∙◌, arith}
 use Rattle.std.specs.Prelude.{Bool}
 use Rattle.storage_model.specs.Storage.{at}
 use Rattle.storage_model.specs.Chain.{none_beside, marks_against}

@@ -1,6 +1,6 @@
-use Rattle.std.proofs.Common.{◌≡◌, sym, ◌∙◌}
+use Rattle.std.proofs.Common.{sym, ◌∙◌}
 use Rattle.std.specs.Prelude.{true, false}
-use Rattle.std.proofs.lemmas.Bool.{not-true, not-false}
+use Rattle.std.proofs.lemmas.Bool.{not-false}
 use Rattle.storage_model.specs.Model.{model}
 use Rattle.storage_model.proofs.Points.{read_rest, read_described}
 use Rattle.storage_model.proofs.storage.Storage.broken_reading.Goals as goal

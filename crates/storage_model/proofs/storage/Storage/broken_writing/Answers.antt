@@ -1,6 +1,6 @@
-use Rattle.std.proofs.Common.{◌≡◌, sym, ◌∙◌, ap}
-use Rattle.std.specs.Prelude.{true, false, Some, None}
-use Rattle.std.proofs.lemmas.Bool.{not-true, not-false}
+use Rattle.std.proofs.Common.{sym, ◌∙◌, ap}
+use Rattle.std.specs.Prelude.{None}
+use Rattle.std.proofs.lemmas.Bool.{not-false}
 use Rattle.storage_model.specs.Tags.{V07}
 use Rattle.storage_model.specs.Access.{first}
 use Rattle.storage_model.specs.Model.{model}

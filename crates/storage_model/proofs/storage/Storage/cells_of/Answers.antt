@@ -1,4 +1,4 @@
-use Rattle.std.proofs.Common.{◌≡◌, ℕ, ◌+◌, sym, ◌∙◌, ap, [], ◌∷◌, ◌++◌}
+use Rattle.std.proofs.Common.{sym, ◌∙◌, ap, [], ◌∷◌, ◌++◌}
 use Rattle.storage_model.specs.Access.{cells_from}
 use Rattle.storage_model.specs.Model.{model}
 use Rattle.storage_model.proofs.Reading.{cells_next}

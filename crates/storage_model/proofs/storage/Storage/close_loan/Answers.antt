@@ -1,5 +1,4 @@
-use Rattle.std.proofs.Common.{◌≡◌, sym, ◌∙◌, ap, subst}
-use Rattle.storage_model.specs.Loans.{close_one}
+use Rattle.std.proofs.Common.{sym, ◌∙◌, ap, subst}
 use Rattle.storage_model.specs.Listings.{StandsGood}
 use Rattle.storage_model.specs.Model.{model}
 use Rattle.storage_model.proofs.Closing.{closed_off, stands_close}

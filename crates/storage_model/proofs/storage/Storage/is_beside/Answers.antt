@@ -1,4 +1,4 @@
-use Rattle.std.proofs.Common.{◌≡◌, sym, ◌∙◌}
+use Rattle.std.proofs.Common.{sym, ◌∙◌}
 use Rattle.storage_model.specs.Model.{model}
 use Rattle.storage_model.proofs.Listed.{good_open_byte}
 use Rattle.storage_model.proofs.storage.Storage.is_beside.Goals as goal

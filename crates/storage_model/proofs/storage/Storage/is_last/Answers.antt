@@ -1,7 +1,5 @@
-use Rattle.std.proofs.Common.{◌≡◌, ℕ, ◌+◌, ◌<◌, ◌≤◌, refl, sym, ◌∙◌, ap, subst, arith, length, ⊎_elim}
-use Rattle.std.specs.Prelude.{false}
+use Rattle.std.proofs.Common.{◌≡◌, ℕ, ◌+◌, ◌<◌, refl, sym, ◌∙◌, ap, arith, length, ⊎_elim}
 use Rattle.std.proofs.lemmas.Bool.{cases_lt}
-use Rattle.storage_model.specs.Listings.{IsLast}
 use Rattle.storage_model.specs.Held.{nth_loan}
 use Rattle.storage_model.proofs.Chains.{nat_or}
 use Rattle.storage_model.proofs.Grounds.{not_both}

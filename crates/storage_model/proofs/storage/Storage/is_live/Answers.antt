@@ -1,4 +1,4 @@
-use Rattle.std.proofs.Common.{◌<◌, sym, ◌∙◌, ap, arith, length}
+use Rattle.std.proofs.Common.{sym, ◌∙◌, ap, arith}
 use Rattle.storage_model.specs.Storage.{is_live}
 use Rattle.storage_model.specs.Model.{model}
 use Rattle.storage_model.proofs.Nth.{nth_object_at, nth_loan_at}

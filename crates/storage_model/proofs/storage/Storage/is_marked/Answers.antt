@@ -1,4 +1,4 @@
-use Rattle.std.proofs.Common.{ℕ, ◌<◌, sym, ◌∙◌, ap, arith, length}
+use Rattle.std.proofs.Common.{sym, ◌∙◌, ap, arith}
 use Rattle.storage_model.specs.Chain.{marks_against}
 use Rattle.storage_model.specs.Held.{no_byte}
 use Rattle.storage_model.specs.Model.{model}

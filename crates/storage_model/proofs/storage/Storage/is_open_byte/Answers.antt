@@ -1,7 +1,5 @@
-use Rattle.std.proofs.Common.{◌≡◌, ◌<◌, sym, ◌∙◌, ap, arith, length}
+use Rattle.std.proofs.Common.{sym, ◌∙◌, ap, arith}
 use Rattle.std.specs.Prelude.{◌&&◌, ltb}
-use Rattle.storage_model.specs.Chain.{is_open_byte}
-use Rattle.storage_model.specs.Model.{model}
 use Rattle.storage_model.proofs.Nth.{nth_loan_at}
 use Rattle.storage_model.proofs.storage.Storage.is_open_byte.Goals as goal
 

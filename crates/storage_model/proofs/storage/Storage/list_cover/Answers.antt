@@ -1,8 +1,7 @@
-use Rattle.std.proofs.Common.{◌≡◌, ℕ, ◌<◌, sym, ◌∙◌, ap, subst, arith, length}
+use Rattle.std.proofs.Common.{◌≡◌, ◌<◌, sym, ◌∙◌, ap, subst, arith, length}
 use Rattle.std.specs.Prelude.{true}
 use Rattle.storage_model.specs.Storage.{is_live}
-use Rattle.storage_model.specs.Held.{in_stack, stack_at}
-use Rattle.storage_model.specs.Listings.{KeepsStacks}
+use Rattle.storage_model.specs.Held.{in_stack}
 use Rattle.storage_model.specs.Model.{model}
 use Rattle.storage_model.proofs.Keeps.{held_covers, object_alive}
 use Rattle.storage_model.proofs.Stacks.{tables_kept, on_ok, stack_set}

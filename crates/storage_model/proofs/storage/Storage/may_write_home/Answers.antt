@@ -1,4 +1,4 @@
-use Rattle.std.proofs.Common.{◌<◌, sym, ◌∙◌, ap, arith, length}
+use Rattle.std.proofs.Common.{sym, ◌∙◌, ap, arith}
 use Rattle.storage_model.specs.Storage.{can_write, at}
 use Rattle.storage_model.specs.Chain.{may_write}
 use Rattle.storage_model.specs.Model.{model}

@@ -1,4 +1,4 @@
-use Rattle.std.proofs.Common.{◌≡◌, ℕ, ◌+◌, ◌<◌, sym, ◌∙◌, ap, arith, length, get_or, below_more}
+use Rattle.std.proofs.Common.{◌≡◌, ◌<◌, sym, arith, length, get_or, below_more}
 use Rattle.std.specs.Prelude.{Bool, ◌&&◌, true, false}
 use Rattle.storage_model.specs.declared.held.Cover.{Cover}
 use Rattle.storage_model.specs.Chain.{marks_against, is_beside}

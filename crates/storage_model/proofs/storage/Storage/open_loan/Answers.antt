@@ -1,7 +1,7 @@
-use Rattle.std.proofs.Common.{◌≡◌, sym, ◌∙◌, ap, subst, map}
+use Rattle.std.proofs.Common.{sym, ◌∙◌, ap, subst, map}
 use Rattle.std.specs.List.{list_all}
 use Rattle.storage_model.specs.Storage.{is_live, is_memory}
-use Rattle.storage_model.specs.Loans.{open_one, new_loan, place_of, spot_in_range}
+use Rattle.storage_model.specs.Loans.{open_one, place_of, spot_in_range}
 use Rattle.storage_model.specs.Listings.{PlacesGood, fresh_byte, lent}
 use Rattle.storage_model.specs.Model.{model}
 use Rattle.storage_model.proofs.Opening.{spots_good, lent_fresh, if_done}

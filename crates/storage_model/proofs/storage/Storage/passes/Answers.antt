@@ -1,4 +1,4 @@
-use Rattle.std.proofs.Common.{◌≡◌, ℕ, sym, ◌∙◌, ap, arith, List, [], ◌∷◌}
+use Rattle.std.proofs.Common.{sym, ◌∙◌, arith}
 use Rattle.storage_model.specs.declared.cell.View.TheVariants.{Loan}
 use Rattle.storage_model.specs.Storage.{at}
 use Rattle.storage_model.specs.Chain.{same_place, chain_of}

@@ -1,9 +1,7 @@
-use Rattle.std.proofs.Common.{◌≡◌, ℕ, ◌<◌, sym, ◌∙◌, ap, subst, arith, w64}
-use Rattle.std.specs.Prelude.{Some, None, Option, ℤ, pos}
+use Rattle.std.proofs.Common.{◌≡◌, sym, ◌∙◌, ap, arith, w64}
+use Rattle.std.specs.Prelude.{Some, None, pos}
 use Rattle.std.proofs.lemmas.Int.{to_z-of_z}
-use Rattle.storage_model.specs.declared.cell.Cell.{Cell}
-use Rattle.storage_model.specs.Storage.{Storage, at}
-use Rattle.storage_model.specs.Access.{offset_of, peek_at, peeked, by_offset}
+use Rattle.storage_model.specs.Access.{offset_of, peek_at, by_offset}
 use Rattle.storage_model.specs.Model.{model}
 use Rattle.storage_model.proofs.Points.{offset_some, peek_good, peek_dead, peek_outside}
 use Rattle.storage_model.proofs.storage.Storage.peek_in.Goals as goal

@@ -1,11 +1,9 @@
-use Rattle.std.proofs.Common.{◌≡◌, ℕ, ◌+◌, ◌≤◌, ◌<◌, sym, ◌∙◌, arith}
+use Rattle.std.proofs.Common.{sym, ◌∙◌, arith}
 use Rattle.std.proofs.Common.{ap, w64}
 use Rattle.std.proofs.lemmas.Int.{to_z-of_z}
-use Rattle.std.specs.Prelude.{Some, false, true}
-use Rattle.storage_model.specs.Storage.{size_of, is_live}
 use Rattle.storage_model.specs.Access.{offset_of}
 use Rattle.storage_model.specs.Model.{model}
-use Rattle.storage_model.proofs.Points.{access_dead, access_none, access_negative, access_outside, access_inside}
+use Rattle.storage_model.proofs.Points.{access_dead, access_outside, access_inside}
 use Rattle.storage_model.proofs.storage.Storage.reach_in.Goals as goal
 use Rattle.storage_model.proofs.storage.Storage.reach_in.Goals.{else-n-size-via-then-n-size+else-start-size, else-n-size-via-else-n-size}
 

@@ -1,12 +1,11 @@
-use Rattle.std.proofs.Common.{◌≡◌, ℕ, ◌+◌, ◌<◌, ◌≤◌, refl, sym, ◌∙◌, ap, subst, arith, length, get_or, List}
-use Rattle.std.specs.Prelude.{true, false}
+use Rattle.std.proofs.Common.{◌≡◌, ◌+◌, ◌<◌, ◌≤◌, refl, sym, ◌∙◌, ap, subst, arith, length, get_or}
 use Rattle.storage_model.specs.declared.held.Cover.{Cover}
 use Rattle.storage_model.specs.Storage.{Good}
-use Rattle.storage_model.specs.Chain.{home_of, is_beside}
+use Rattle.storage_model.specs.Chain.{home_of}
 use Rattle.storage_model.specs.Held.{stack_at}
 use Rattle.storage_model.specs.Model.{model}
 use Rattle.storage_model.proofs.Steps.{get_or_any}
-use Rattle.storage_model.proofs.Reading.{Marked, marked_skip, marked_put, marked_all, good_with_read, beside_within}
+use Rattle.storage_model.proofs.Reading.{Marked, marked_skip, marked_put, marked_all, good_with_read}
 use Rattle.storage_model.proofs.storage.Storage.read_byte.Goals as goal
 use Rattle.storage_model.proofs.storage.Storage.read_byte.Goals.{then-is_beside, else-is_beside}
 

@@ -1,4 +1,4 @@
-use Rattle.std.proofs.Common.{◌≡◌, ℕ, ◌+◌, ◌-◌, sym, ◌∙◌, ap, subst, arith}
+use Rattle.std.proofs.Common.{◌+◌, ◌-◌, sym, ◌∙◌, ap, subst, arith}
 use Rattle.storage_model.specs.Storage.{at}
 use Rattle.storage_model.specs.Access.{read_all}
 use Rattle.storage_model.specs.Reach.{GoodBytes}

@@ -1,8 +1,6 @@
-use Rattle.std.proofs.Common.{◌≡◌, ℕ, ◌<◌, refl, sym, ◌∙◌, ap, subst, arith, length}
-use Rattle.std.specs.Prelude.{true}
+use Rattle.std.proofs.Common.{refl, arith}
 use Rattle.std.specs.Vec.{with_item}
 use Rattle.std.proofs.lemmas.List.{length-set}
-use Rattle.storage_model.specs.Model.{model}
 use Rattle.storage_model.specs.declared.held.HeldObject.{HeldObject}
 use Rattle.storage_model.proofs.Keeps.{held_cell, object_there, cell_there}
 use Rattle.storage_model.proofs.Updates.{cell_facts}

@@ -1,7 +1,6 @@
-use Rattle.std.proofs.Common.{◌≡◌, ℕ, ◌<◌, refl, length}
+use Rattle.std.proofs.Common.{refl}
 use Rattle.std.specs.Prelude.{false}
 use Rattle.storage_model.specs.declared.held.HeldLoan.{HeldLoan}
-use Rattle.storage_model.specs.Model.{model}
 use Rattle.storage_model.proofs.Closing.{held_close, close_facts}
 use Rattle.storage_model.proofs.Keeps.{loan_open}
 use Rattle.storage_model.proofs.storage.Storage.set_closed.Goals as goal

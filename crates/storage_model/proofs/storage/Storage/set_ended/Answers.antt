@@ -1,7 +1,6 @@
-use Rattle.std.proofs.Common.{◌≡◌, ℕ, ◌<◌, refl, arith, length}
+use Rattle.std.proofs.Common.{refl}
 use Rattle.std.specs.Prelude.{false}
 use Rattle.storage_model.specs.declared.held.HeldObject.{HeldObject}
-use Rattle.storage_model.specs.Model.{model}
 use Rattle.storage_model.proofs.Ending.{held_end, end_facts}
 use Rattle.storage_model.proofs.Keeps.{object_alive}
 use Rattle.storage_model.proofs.storage.Storage.set_ended.Goals as goal

@@ -1,11 +1,7 @@
-use Rattle.std.proofs.Common.{◌≡◌, ℕ, ◌<◌, refl, sym, ◌∙◌, ap, subst, arith, length, ⊎_elim}
+use Rattle.std.proofs.Common.{refl, arith}
 use Rattle.std.specs.Prelude.{true}
 use Rattle.std.specs.Vec.{with_item}
-use Rattle.std.proofs.lemmas.Bool.{cases_lt}
-use Rattle.storage_model.specs.Model.{model}
-use Rattle.storage_model.specs.Held.{nth_loan}
 use Rattle.storage_model.specs.declared.held.HeldLoan.{HeldLoan}
-use Rattle.storage_model.specs.declared.held.LoanByte.{LoanByte}
 use Rattle.storage_model.proofs.Keeps.{held_read, loan_there, byte_there}
 use Rattle.storage_model.proofs.Updates.{read_facts}
 use Rattle.storage_model.proofs.storage.Storage.set_read.Goals as goal

@@ -1,4 +1,4 @@
-use Rattle.std.proofs.Common.{◌≡◌, ◌<◌, ◌^◌, sym, ◌∙◌, ap, subst, arith, length}
+use Rattle.std.proofs.Common.{sym, ◌∙◌, ap, arith}
 use Rattle.storage_model.specs.declared.cell.View.TheVariants.{Home, Loan}
 use Rattle.storage_model.specs.Storage.{size_of}
 use Rattle.storage_model.specs.Model.{model}

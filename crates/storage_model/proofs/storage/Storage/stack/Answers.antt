@@ -1,4 +1,4 @@
-use Rattle.std.proofs.Common.{ℕ, ◌<◌, sym, ◌∙◌, ap, arith, length}
+use Rattle.std.proofs.Common.{sym, ◌∙◌, ap, arith}
 use Rattle.storage_model.specs.Storage.{at}
 use Rattle.storage_model.specs.Held.{stack_at, nth_stack}
 use Rattle.storage_model.proofs.Nth.{nth_table_at, nth_table_past, nth_stack_at, nth_stack_past}

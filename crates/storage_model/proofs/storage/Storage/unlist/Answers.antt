@@ -1,5 +1,4 @@
-use Rattle.std.proofs.Common.{◌≡◌, ℕ, ◌<◌, sym, ◌∙◌, ap, subst, arith, length}
-use Rattle.std.specs.Prelude.{true, false}
+use Rattle.std.proofs.Common.{◌<◌, ◌∙◌, ap, arith, length}
 use Rattle.storage_model.specs.Held.{nth_loan}
 use Rattle.storage_model.proofs.Grounds.{not_both}
 use Rattle.storage_model.proofs.Keeps.{held_covers}

@@ -1,4 +1,4 @@
-use Rattle.std.proofs.Common.{◌≡◌, ℕ, ◌<◌, sym, ◌∙◌, ap, subst, arith, length}
+use Rattle.std.proofs.Common.{◌<◌, sym, ◌∙◌, ap, subst, arith, length}
 use Rattle.storage_model.specs.Storage.{Good, places}
 use Rattle.storage_model.specs.Model.{model}
 use Rattle.storage_model.proofs.Nth.{nth_loan_at}

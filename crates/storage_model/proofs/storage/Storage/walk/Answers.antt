@@ -1,12 +1,10 @@
-use Rattle.std.proofs.Common.{◌≡◌, ℕ, sym, ◌∙◌, ap, arith, List, [], ◌∷◌}
-use Rattle.std.specs.Prelude.{Bool, not, ◌&&◌}
+use Rattle.std.proofs.Common.{sym, ◌∙◌, ap, arith}
+use Rattle.std.specs.Prelude.{not, ◌&&◌}
 use Rattle.std.specs.List.{list_all}
-use Rattle.storage_model.specs.declared.cell.Place.{Place}
 use Rattle.storage_model.specs.Storage.{at}
 use Rattle.storage_model.specs.Chain.{chain_of, aligned_to, may_write, not_read}
 use Rattle.storage_model.specs.Model.{model}
-use Rattle.storage_model.proofs.Steps.{in_bytes, step, all_step, all_end}
-use Rattle.storage_model.proofs.Grounds.{chain_home, home_home}
+use Rattle.storage_model.proofs.Steps.{in_bytes, step, all_step}
 use Rattle.storage_model.proofs.storage.Storage.walk.Goals as goal
 
 pub index-byte-requires : goal.index-byte-requires

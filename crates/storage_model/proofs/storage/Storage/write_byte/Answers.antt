@@ -1,6 +1,6 @@
-use Rattle.std.proofs.Common.{◌≡◌, ℕ, sym, ◌∙◌, ap, subst, arith}
+use Rattle.std.proofs.Common.{◌≡◌, sym, ◌∙◌, ap, subst, arith}
 use Rattle.std.specs.Prelude.{true}
-use Rattle.storage_model.specs.Storage.{at, places, Good, is_memory}
+use Rattle.storage_model.specs.Storage.{Good, is_memory}
 use Rattle.storage_model.specs.Access.{write_one}
 use Rattle.storage_model.specs.Marks.{written_set}
 use Rattle.storage_model.specs.Model.{model}

@@ -1,8 +1,7 @@
-use Rattle.std.proofs.Common.{◌≡◌, ℕ, ◌+◌, ◌<◌, sym, ◌∙◌, ap, subst, arith, length, drop}
+use Rattle.std.proofs.Common.{◌≡◌, ◌+◌, sym, ◌∙◌, ap, subst, arith, length, drop}
 use Rattle.std.specs.Prelude.{true}
-use Rattle.storage_model.specs.declared.cell.Cell.TheVariants.{Undefined}
 use Rattle.storage_model.specs.Storage.{at, is_memory}
-use Rattle.storage_model.specs.Access.{write_one, write_all}
+use Rattle.storage_model.specs.Access.{write_all}
 use Rattle.storage_model.specs.Reach.{GoodBytes}
 use Rattle.storage_model.specs.Model.{model}
 use Rattle.storage_model.proofs.Writes.{write_next, bytes_write_one}
