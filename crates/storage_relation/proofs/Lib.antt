@@ -11,3 +11,6 @@ pub mod Making
 pub mod Describing
 pub mod Run
 pub mod Elsewhere
+pub mod Checks
+pub mod Many
+pub mod Made

@@ -1,14 +1,23 @@
-//! How flat memory stands for storage with loans, and that every kind of step keeps it.
+//! How flat memory stands for storage with loans, and that every kind of step keeps it: whether a loan's bytes lie where its places are, or were copied to
+//! a region of their own, can't be seen.
 #![tactic(auto)]
 
-ghost use Rattle.std.specs.Prelude.{◌≡◌};
-ghost use Rattle.storage_model.specs.Storage.{places, On, IsHome, cell_at, Good};
+ghost use Rattle.std.specs.Prelude.{◌≡◌, ℕ, ◌+◌, ◌<◌, List, length, None, pos};
 ghost use Rattle.storage_model.specs.declared.cell.Place.{Place};
-ghost use Rattle.storage_relation.specs.Relation.{Readable};
-ghost use Rattle.storage_relation.specs.Flat.{Shows, Stands, address};
+ghost use Rattle.storage_model.specs.declared.cell.View.{View};
+ghost use Rattle.storage_model.specs.declared.cell.Cell.{Cell};
+ghost use Rattle.storage_model.specs.declared.cell.Pointer.TheVariants.{At};
+ghost use Rattle.storage_model.specs.Storage.{Storage, at, places, On, IsHome, cell_at, Good};
+ghost use Rattle.storage_model.specs.Chain.{cell_under};
+ghost use Rattle.storage_model.specs.Access.{check_read, check_write, write_all, read_all};
+ghost use Rattle.storage_model.specs.Ends.{check_end, end_one};
+ghost use Rattle.storage_model.specs.Loans.{close_one};
+ghost use Rattle.storage_relation.specs.Relation.{Readable, IsLast};
+ghost use Rattle.storage_relation.specs.Flat.{Shows, Stands, Placement, address, closing, AllKnown, AllStand, store_all};
 ghost use Rattle.storage_relation.specs.Run.{State, Step, Steps, IsEmpty};
 
-/// Every kind of step keeps the relation.
+/// Every kind of step keeps the relation: a read and a write of a byte, the opening of a loan that is passed or copied, the closing of the last loan,
+/// the making and the end of an object, and a change of a descriptor.
 pub fn steps_keep_it()
     ensures { (a b : State) → Step a b → Shows a.storage a.placement a.memory → Shows b.storage b.placement b.memory }
 {}
@@ -19,4 +28,29 @@ pub fn copying_is_unseen()
     ensures { (a b : State) → IsEmpty a.storage → Steps a b
         → (p h : Place) → Good b.storage p → Readable b.storage p → IsHome h.view → On (places b.storage) p h
         → Stands b.placement (cell_at b.storage h) (b.memory (address b.placement p)) }
+{}
+
+/// A write that is allowed is the stores of its bytes.
+pub fn allowed_write_is_stores()
+    ensures { (s : Storage) (f : Placement) (memory : ℕ → ℕ) → Shows s f memory
+        → (v : View) (k a : ℕ) (cs : List Cell) (bs : List ℕ) → check_write s (At v (pos k)) (length cs) a ≡ None
+        → AllKnown s.made s.opened cs → AllStand f cs bs
+        → Shows (write_all s v k cs) f (store_all memory (f.start v + k) bs) }
+{}
+
+/// A read that is allowed is the loads of its bytes.
+pub fn allowed_read_is_loads()
+    ensures { (s : Storage) (f : Placement) (memory : ℕ → ℕ) → Shows s f memory
+        → (v : View) (k n a : ℕ) → check_read s (At v (pos k)) n a ≡ None
+        → ((x : ℕ) → x < n → Stands f (cell_under s (at v (k + x))) (memory (f.start v + (k + x)))) × Shows (read_all s v k n) f memory }
+{}
+
+/// The end of an object that may end asks nothing of the flat side.
+pub fn allowed_end_is_nothing()
+    ensures { (s : Storage) (f : Placement) (memory : ℕ → ℕ) → Shows s f memory → (n : ℕ) → check_end s n ≡ None → Shows (end_one s n) f memory }
+{}
+
+/// Closing the last loan is a scatter of all its bytes where it was copied and is writable, and else nothing.
+pub fn closing_is_a_scatter()
+    ensures { (s : Storage) (f : Placement) (memory : ℕ → ℕ) → Shows s f memory → (n : ℕ) → IsLast s n → Shows (close_one s n) f (closing s f n memory) }
 {}
