@@ -2,18 +2,20 @@
 //! a region of their own, can't be seen.
 #![tactic(auto)]
 
-ghost use Rattle.std.specs.Prelude.{◌≡◌, ℕ, ◌+◌, ◌<◌, List, length, None, pos};
+ghost use Rattle.std.specs.Prelude.{◌≡◌, ℕ, ◌+◌, ◌<◌, List, [], length, map, Bool, false, None, pos};
 ghost use Rattle.storage_model.specs.declared.cell.Place.{Place};
 ghost use Rattle.storage_model.specs.declared.cell.View.{View};
 ghost use Rattle.storage_model.specs.declared.cell.Cell.{Cell};
+ghost use Rattle.storage_model.specs.declared.cell.Spot.{Spot};
+ghost use Rattle.storage_model.specs.declared.cell.Kind.{Kind};
 ghost use Rattle.storage_model.specs.declared.cell.Pointer.TheVariants.{At};
-ghost use Rattle.storage_model.specs.Storage.{Storage, at, places, On, IsHome, cell_at, Good};
+ghost use Rattle.storage_model.specs.Storage.{Storage, at, places, On, IsHome, cell_at, has_cells, Good};
 ghost use Rattle.storage_model.specs.Chain.{cell_under};
 ghost use Rattle.storage_model.specs.Access.{check_read, check_write, write_all, read_all};
-ghost use Rattle.storage_model.specs.Ends.{check_end, end_one};
-ghost use Rattle.storage_model.specs.Loans.{close_one};
+ghost use Rattle.storage_model.specs.Ends.{check_end, end_one, make_one, new_object};
+ghost use Rattle.storage_model.specs.Loans.{check_open, place_of, new_loan, open_one, close_one};
 ghost use Rattle.storage_relation.specs.Relation.{Readable, IsLast};
-ghost use Rattle.storage_relation.specs.Flat.{Shows, Stands, Placement, address, closing, AllKnown, AllStand, store_all};
+ghost use Rattle.storage_relation.specs.Flat.{Shows, Stands, Placement, address, closing, gather, AllKnown, AllStand, store_all, StartsLoan, Passes, Copies, StartsObject, Fills};
 ghost use Rattle.storage_relation.specs.Run.{State, Step, Steps, IsEmpty};
 
 /// Every kind of step keeps the relation: a read and a write of a byte, the opening of a loan that is passed or copied, the closing of the last loan,
@@ -53,4 +55,21 @@ pub fn allowed_end_is_nothing()
 /// Closing the last loan is a scatter of all its bytes where it was copied and is writable, and else nothing.
 pub fn closing_is_a_scatter()
     ensures { (s : Storage) (f : Placement) (memory : ℕ → ℕ) → Shows s f memory → (n : ℕ) → IsLast s n → Shows (close_one s n) f (closing s f n memory) }
+{}
+
+/// Opening a loan is nothing where its bytes lie in a row already and it is passed, and a gather where it is copied.
+pub fn allowed_open_is_a_gather()
+    ensures passed { (s : Storage) (f g : Placement) (memory : ℕ → ℕ) → Shows s f memory → (spots : List Spot) (w : Bool) → check_open s spots ≡ None
+        → StartsLoan s f g → Passes s (new_loan (map place_of spots) w) f g → Shows (open_one s (new_loan (map place_of spots) w)) g memory }
+    ensures copied { (s : Storage) (f g : Placement) (memory : ℕ → ℕ) → Shows s f memory → (spots : List Spot) (w : Bool) → check_open s spots ≡ None
+        → StartsLoan s f g → Copies s (new_loan (map place_of spots) w) f g
+        → Shows (open_one s (new_loan (map place_of spots) w)) g (gather s (new_loan (map place_of spots) w) f g memory) }
+{}
+
+/// Making an object fills its region.
+pub fn making_fills_a_region()
+    ensures { (s : Storage) (f g : Placement) (memory after : ℕ → ℕ) → Shows s f memory → (size : ℕ) (kind : Kind) (cells : List Cell)
+        → (has_cells kind ≡ false → cells ≡ []) → AllKnown s.made s.opened cells
+        → StartsObject s (new_object size kind cells) f g → Fills s (new_object size kind cells) g memory after
+        → Shows (make_one s (new_object size kind cells)) g after }
 {}
