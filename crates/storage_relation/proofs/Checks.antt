@@ -1,24 +1,23 @@
 -- The computed tests mean what the relation's facts say.
-use Rattle.std.proofs.Common.{ℕ, zero, suc, ◌+◌, ◌≡◌, ◌<◌, refl, sym, ◌∙◌, ap, subst, arith, ⊎_elim, List}
-use Rattle.std.specs.Prelude.{◌⊎◌, Bool, true, false, not, ◌&&◌, ◌||◌, ltb, Option, None, pos}
+use Rattle.std.proofs.Common.{ℕ, zero, suc, ◌+◌, ◌≡◌, ◌<◌, refl, ap, arith, ⊎_elim}
+use Rattle.std.specs.Prelude.{Bool, true, false, not, ◌&&◌, ltb, Option, None, pos}
 use Rattle.std.specs.List.{list_all}
 use Rattle.std.proofs.lemmas.Bool.{and_parts, and_from, cases_Bool, not_from_true, not_from_false, both_ways, lt-ltb, ltb-true, not-true}
 use Rattle.jf_base.specs.declared.tag.Tag.{Tag}
 use Rattle.storage_model.specs.declared.cell.View.{View}
 use Rattle.storage_model.specs.declared.cell.View.TheVariants.{Home, Loan}
 use Rattle.storage_model.specs.declared.cell.Place.{Place}
-use Rattle.storage_model.specs.declared.cell.Kind.TheVariants.{ReadOnly}
 use Rattle.storage_model.specs.declared.cell.Pointer.TheVariants.{At}
 use Rattle.storage_model.specs.Tags.{V01, V02, V05, V06, V07, V21}
-use Rattle.storage_model.specs.Storage.{Storage, at, places, is_live, is_memory, size_of, can_write, IsWritable, Good, On, Meets}
+use Rattle.storage_model.specs.Storage.{Storage, at, is_live, is_memory, size_of, can_write, IsWritable, Good}
 use Rattle.storage_model.specs.Laws.{IsSound}
 use Rattle.storage_model.specs.Chain.{chain_of, home_of, in_range, each_below, each_byte, aligned_to, may_write, not_read, is_open_byte, covers, passes, is_beside, none_beside, written_marks, any_mark}
-use Rattle.storage_model.specs.Access.{first, check_access, check_read, check_write, read_points, write_points}
+use Rattle.storage_model.specs.Access.{first, check_read, check_write}
 use Rattle.storage_model.specs.Ends.{check_end}
 use Rattle.storage_model.proofs.Meanings.{each_at, place_iff}
 use Rattle.storage_model.proofs.Grounds.{good_loan, opened_if, homes, passes_on, chain_all}
 use Rattle.storage_model.proofs.Points.{head_fails}
-use Rattle.storage_relation.specs.Relation.{NoneBeside, Written, AnyMark, Readable, Writable}
+use Rattle.storage_relation.specs.Relation.{NoneBeside, AnyMark, Readable, Writable}
 use Rattle.storage_relation.specs.Flat.{IsStorage}
 
 pub sound_of : (s : Storage) → IsStorage s → IsSound s

@@ -14,3 +14,4 @@ pub mod Elsewhere
 pub mod Checks
 pub mod Many
 pub mod Made
+pub mod Pointers

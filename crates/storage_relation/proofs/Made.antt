@@ -1,7 +1,7 @@
 -- The computed steps on objects and loans are steps.
-use Rattle.std.proofs.Common.{ℕ, zero, suc, ◌+◌, ◌≡◌, ◌<◌, refl, sym, ◌∙◌, ap, subst, arith, List, [], ◌∷◌, get_or, map}
+use Rattle.std.proofs.Common.{ℕ, zero, suc, ◌+◌, ◌≡◌, ◌<◌, refl, sym, ap, subst, arith, List, [], ◌∷◌, get_or, map}
 use Rattle.std.specs.List.{list_all}
-use Rattle.std.specs.Prelude.{◌≢◌, Bool, true, false, ◌==◌, None, if◌then◌else◌}
+use Rattle.std.specs.Prelude.{Bool, true, false, ◌==◌, None, if◌then◌else◌}
 use Rattle.std.proofs.lemmas.Bool.{eq-eqb, ne_eqb, cond-true, cond-false}
 use Rattle.storage_model.specs.declared.cell.View.TheVariants.{Loan}
 use Rattle.storage_model.specs.declared.cell.Spot.{Spot}

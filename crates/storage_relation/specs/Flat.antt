@@ -186,3 +186,7 @@ pub record Describes (s : Storage) (f : Placement) (n : ℕ) (fields : ℕ → �
   pub others : (o i : ℕ) → o ≢ n → fields o i ≡ f.fields o i
   pub rest : (a : ℕ) → (a < f.start (Home n)) ⊎ (f.start (Home n) + (s.object n).size ≤ a) → after a ≡ memory a
   pub shown : (i : ℕ) → i < (s.object n).size → after (f.start (Home n) + i) ≡ fields n i
+
+-- all places of a loan are in one view
+pub record OneView (s : Storage) : Type 0 where
+  pub same : (l j k : ℕ) → j < (s.loan l).bytes → k < (s.loan l).bytes → (places s l j).view ≡ (places s l k).view

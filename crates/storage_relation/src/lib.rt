@@ -2,20 +2,23 @@
 //! a region of their own, can't be seen.
 #![tactic(auto)]
 
-ghost use Rattle.std.specs.Prelude.{◌≡◌, ℕ, ◌+◌, ◌<◌, List, [], length, map, Bool, false, None, pos};
+ghost use Rattle.std.specs.Prelude.{◌≡◌, ◌≢◌, ℕ, ◌+◌, ◌<◌, ◌≤◌, Some, List, [], ◌∷◌, length, map, Bool, false, None, pos};
 ghost use Rattle.storage_model.specs.declared.cell.Place.{Place};
 ghost use Rattle.storage_model.specs.declared.cell.View.{View};
 ghost use Rattle.storage_model.specs.declared.cell.Cell.{Cell};
 ghost use Rattle.storage_model.specs.declared.cell.Spot.{Spot};
 ghost use Rattle.storage_model.specs.declared.cell.Kind.{Kind};
 ghost use Rattle.storage_model.specs.declared.cell.Pointer.TheVariants.{At};
-ghost use Rattle.storage_model.specs.Storage.{Storage, at, places, On, IsHome, cell_at, has_cells, Good};
+ghost use Rattle.storage_model.specs.Storage.{Storage, at, places, On, IsHome, cell_at, has_cells, size_of, Good};
 ghost use Rattle.storage_model.specs.Chain.{cell_under};
 ghost use Rattle.storage_model.specs.Access.{check_read, check_write, write_all, read_all};
 ghost use Rattle.storage_model.specs.Ends.{check_end, end_one, make_one, new_object};
 ghost use Rattle.storage_model.specs.Loans.{check_open, place_of, new_loan, open_one, close_one};
 ghost use Rattle.storage_relation.specs.Relation.{Readable, IsLast};
-ghost use Rattle.storage_relation.specs.Flat.{Shows, Stands, Placement, address, closing, gather, AllKnown, AllStand, store_all, StartsLoan, Passes, Copies, StartsObject, Fills};
+ghost use Rattle.storage_relation.specs.Flat.{Shows, Stands, Placement, address, closing, gather, AllKnown, AllStand, store_all, StartsLoan, Passes, Copies, StartsObject, Fills, OneView, IsViewOf};
+ghost use Rattle.storage_relation.specs.Scenes.{twice_lent, nested, nested_memory};
+ghost use Rattle.storage_model.specs.Tags.{V07};
+ghost use Rattle.storage_model.specs.declared.cell.View.TheVariants.{Loan};
 ghost use Rattle.storage_relation.specs.Run.{State, Step, Steps, IsEmpty};
 
 /// Every kind of step keeps the relation: a read and a write of a byte, the opening of a loan that is passed or copied, the closing of the last loan,
@@ -72,4 +75,22 @@ pub fn making_fills_a_region()
         → (has_cells kind ≡ false → cells ≡ []) → AllKnown s.made s.opened cells
         → StartsObject s (new_object size kind cells) f g → Fills s (new_object size kind cells) g memory after
         → Shows (make_one s (new_object size kind cells)) g after }
+{}
+
+/// Pointers into different live objects have different addresses, where all places of each loan are in one view.
+pub fn pointers_stay_apart()
+    ensures { (s : Storage) (f : Placement) (memory : ℕ → ℕ) → Shows s f memory → OneView s
+        → (v w : View) (o m k j : ℕ) → IsViewOf s v o → IsViewOf s w m → o ≢ m → k ≤ size_of s v → j ≤ size_of s w
+        → f.start v + k ≢ f.start w + j }
+{}
+
+/// Where a loan ends twice at one home byte, a write through it is V07.
+pub fn twice_is_refused()
+    ensures { check_write twice_lent (At (Loan 1) (pos 0)) 1 1 ≡ Some V07 }
+{}
+
+/// Every second of nine bytes is lent, and every second of those; zeros through the inner loan arrive at bytes 0, 4 and 8.
+pub fn nested_copies_arrive()
+    ensures allowed { check_write nested (At (Loan 1) (pos 0)) 3 1 ≡ None }
+    ensures arrived { map nested_memory (16 ∷ 17 ∷ 18 ∷ 19 ∷ 20 ∷ 21 ∷ 22 ∷ 23 ∷ 24 ∷ []) ≡ 0 ∷ 2 ∷ 3 ∷ 4 ∷ 0 ∷ 6 ∷ 7 ∷ 8 ∷ 0 ∷ [] }
 {}
