@@ -21,3 +21,9 @@ abbrev pub UnlessDone : {A : Type 0} → Did A → Type 0 → Type 0
 UnlessDone (Done x) P = Unit {0}
 UnlessDone (Violation t) P = P
 UnlessDone Memory P = P
+
+-- memory isn't wanting
+abbrev pub WantsNothing : {A : Type 0} → Did A → Type 0
+WantsNothing (Done x) = Unit {0}
+WantsNothing (Violation t) = Unit {0}
+WantsNothing Memory = ⊥

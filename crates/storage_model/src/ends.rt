@@ -5,7 +5,7 @@ ghost use Rattle.storage_model.specs.Chain.{each_below, none_beside, any_mark};
 ghost use Rattle.storage_model.specs.Held.{object_of, cell_count};
 ghost use Rattle.storage_model.specs.Reach.{IsUncovered};
 ghost use Rattle.storage_model.specs.Ends.{new_object, make_one, check_end, end_one};
-ghost use Rattle.storage_model.specs.Answers.{Answers, IfDone, UnlessDone};
+ghost use Rattle.storage_model.specs.Answers.{Answers, IfDone, UnlessDone, WantsNothing};
 ghost use Rattle.storage_model.specs.Model.{model};
 
 use crate::access::V07;
@@ -107,6 +107,7 @@ impl Storage {
     /// Ends an object. What isn't alive is V02, and an object of which an open loan covers a byte is V07. A violation changes nothing.
     pub fn end(&mut self, object: u32) -> Did<()>
         ensures answer { Answers result (check_end (model self.old) object) }
+        ensures memory { WantsNothing result }
         ensures done { IfDone result (λ _. model self.new ≡ end_one (model self.old) object) }
         ensures unchanged { UnlessDone result (model self.new ≡ model self.old) }
     {

@@ -4,7 +4,7 @@ ghost use Rattle.storage_model.specs.Storage.{is_live, is_memory};
 ghost use Rattle.storage_model.specs.Loans.{check_open, spot_in_range, place_of, new_loan, open_one, close_one, check_close};
 ghost use Rattle.storage_model.specs.Listings.{PlacesGood, PlacesListed, fresh_byte, lent, IsLast, StandsGood};
 ghost use Rattle.storage_model.specs.Held.{loan_of};
-ghost use Rattle.storage_model.specs.Answers.{Answers, IfDone, UnlessDone};
+ghost use Rattle.storage_model.specs.Answers.{Answers, IfDone, UnlessDone, WantsNothing};
 ghost use Rattle.storage_model.specs.Model.{model};
 
 use crate::access::{V21, start_of};
@@ -180,6 +180,7 @@ impl Storage {
     pub fn close_loan(&mut self, loan: u32) -> Did<()>
         requires { IsLast (model self.old) loan }
         ensures answer { Answers result (check_close (model self.old) loan) }
+        ensures memory { WantsNothing result }
         ensures done { IfDone result (λ _. model self.new ≡ close_one (model self.old) loan) }
         ensures unchanged { UnlessDone result (model self.new ≡ model self.old) }
     {

@@ -2,7 +2,7 @@ ghost use Rattle.std.specs.Prelude.{◌≡◌, ◌+◌, true, length, ℕ};
 ghost use Rattle.storage_model.specs.Storage.{Good, is_memory};
 ghost use Rattle.storage_model.specs.Access.{check_write, write_one, write_all, after_write};
 ghost use Rattle.storage_model.specs.Reach.{GoodBytes};
-ghost use Rattle.storage_model.specs.Answers.{Answers, IfDone, UnlessDone};
+ghost use Rattle.storage_model.specs.Answers.{Answers, IfDone, UnlessDone, WantsNothing};
 ghost use Rattle.storage_model.specs.Model.{model};
 
 use crate::access::Reach;
@@ -43,9 +43,10 @@ impl Storage {
 
     /// The cells are put at the bytes from a pointer on, by a write at the alignment. The first point that is broken is the violation: V04 null,
     /// V01 a procedure, V02 a view that isn't live, V01 out of range, V05 misaligned, V06 read-only, V21 a descriptor, V07 against an open loan
-    /// (ISO/IEC 1539-1:2018 15.5.2.13). A violation changes nothing.
+    /// (ISO/IEC 1539-1:2018 15.5.2.13). A violation changes nothing, and no memory is taken.
     pub fn write(&mut self, p: Pointer, align: u64, cells: &[Cell]) -> Did<()>
         ensures answer { Answers result (check_write (model self.old) p (length cells.now) align) }
+        ensures memory { WantsNothing result }
         ensures done { IfDone result (λ _. model self.new ≡ after_write (model self.old) p cells.now) }
         ensures unchanged { UnlessDone result (model self.new ≡ model self.old) }
     {
