@@ -1,17 +1,17 @@
 -- How deep calls may be, and how often loops may go back, changes nothing of a run of fewer units.
-use Rattle.std.proofs.Common.{◌≡◌, ℕ, zero, suc, ◌+◌, ◌-◌, ◌%◌, ◌<◌, ◌≤◌, List, [], ◌∷◌, Option, Some, None, refl, sym, ap, ◌∙◌, arith}
+use Rattle.std.proofs.Common.{◌≡◌, ℕ, zero, suc, ◌+◌, ◌-◌, ◌%◌, ◌≤◌, List, [], ◌∷◌, Option, Some, None, refl, sym, ◌∙◌, arith}
 use Rattle.std.specs.Prelude.{slice_get, slice_set, slice_index, length}
 use Rattle.behaviour.specs.Behaviour as B
 use Rattle.behaviour.specs.Behaviour.{Running, Limited, Wrong, Behaviour}
-use Rattle.work.specs.Units.{unit, with_value}
+use Rattle.work.specs.Units.{with_value}
 use Rattle.jf_base.specs.Numbers.{size_of_width}
 use Rattle.flat_ir.specs.declared.program.FlatProgram.{FlatProgram}
 use Rattle.flat_ir.specs.Bytes.{loaded, stored}
 use Rattle.flat_ir.specs.Operations.{result_of, extended}
-use Rattle.flat_ir.specs.Placement.{Placement, Places, places, proc_at, first_bytes, entry_arguments}
+use Rattle.flat_ir.specs.Placement.{Placement, Places, places, proc_at, first_bytes}
 use Rattle.flat_ir.specs.Tree.{Expr, Num, Val, Bin, Load, ProcAt, ImageAt, Stmt, Skip, Seq, Set, Store, Call, CallAt, If, Loop, Break, Return, Take, Give, Stop, Limit, Procedure}
 use Rattle.flat_ir.specs.View.{procs_of}
-use Rattle.flat_ir.specs.Flat.{World, seen, with_memory, with_frames, gave, took, first_byte, Next, Back, Calls, Leaves, over, wrong, halted, on, at_zero, eval, evals, received, receiving, turns, inside, stop_code, meaning, frame_of, charged, returning, nowhere, called, calls_of, starting, params_of, flat_within}
+use Rattle.flat_ir.specs.Flat.{World, seen, with_memory, with_frames, gave, took, first_byte, Next, Back, Calls, Leaves, over, wrong, on, at_zero, eval, evals, received, receiving, turns, inside, meaning, frame_of, charged, returning, nowhere, called, calls_of, starting, flat_within}
 
 -- the same up to n units
 abbrev pub Agree : ℕ → Behaviour → Behaviour → Type 0
@@ -91,7 +91,7 @@ meaning_agree (If t a b) g n d e c c' back back' leave leave' next next' ld le h
 meaning_agree (Loop s) g n d e c c' back back' leave leave' next next' ld le hc hb hl hn env w =
     let turn : (m : ℕ) (f f' : Next) → m ≤ n → NextAgree m f f' → NextAgree m (meaning s g c d back (inside next leave) f) (meaning s g c' e back' (inside next' leave') f') =
     λ m f f' lm h. meaning_agree s g m d e c c' back back' (inside next leave) (inside next' leave') f f' (omega arith) (omega arith) (λ i p args w r r' li. hc i p args w r r' (omega arith)) (λ v w i li. hb v w i (omega arith))
-        (inside_agree m next next' leave leave' (λ env w i li. hn env w i (omega arith)) (λ k env w i li. hl k env w i (omega arith))) h in
+    (inside_agree m next next' leave leave' (λ env w i li. hn env w i (omega arith)) (λ k env w i li. hl k env w i (omega arith))) h in
     turn n _ _ (omega arith) (turns_agree n _ _ turn n d e (omega arith) ld le) env w
 meaning_agree (Break k) g n d e c c' back back' leave leave' next next' ld le hc hb hl hn env w = hl k env w
 meaning_agree (Return es) g n d e c c' back back' leave leave' next next' ld le hc hb hl hn env w =

@@ -2,14 +2,14 @@
 use mathlib.Core.Former.{Count}
 use denote.Hole.Carrier.{hidden}
 use Rattle.flat_ir.specs.declared.program.FlatExpr.TheBlock.{hidden-the_row-FlatExpr-0}
-use Rattle.std.proofs.Common.{◌≡◌, ℕ, List, [], ◌∷◌, refl, ap, ◌∙◌, Bool}
+use Rattle.std.proofs.Common.{◌≡◌, ℕ, List, refl, ap, ◌∙◌, Bool}
 use Rattle.jf_base.specs.declared.numbers.Width.{Width}
 use Rattle.flat_ir.specs.declared.program.Operation.{Operation}
 use Rattle.flat_ir.specs.declared.program.FlatExpr.{FlatExpr}
 use Rattle.flat_ir.specs.declared.program.FlatExpr.TheVariants as E
 use Rattle.flat_ir.specs.declared.program.FlatStmt.{FlatStmt, Row_of-FlatStmt, end_of-FlatStmt, more_of-FlatStmt, items-the_row-FlatStmt, items_hidden-the_row-FlatStmt-0}
 use Rattle.flat_ir.specs.declared.program.FlatStmt.TheVariants as S
-use Rattle.flat_ir.specs.Tree.{Expr, Bin, Load, Stmt, Skip, Seq, If, Loop}
+use Rattle.flat_ir.specs.Tree.{Bin, Load, Seq, If, Loop}
 use Rattle.std.specs.Prelude.{◌&&◌, ◌||◌}
 use Rattle.std.proofs.Common.{sym}
 use Rattle.flat_ir.specs.Checked.{asks, uses, stmt_fits, expr_fits}

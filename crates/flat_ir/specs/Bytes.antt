@@ -1,5 +1,5 @@
 -- Memory by addresses, and what code may do there.
-use Rattle.std.specs.Prelude.{◌≡◌, ℕ, zero, suc, ◌+◌, ◌*◌, ◌/◌, ◌%◌, ◌≤◌, Option, Some, None, Bool, cond, ◌&&◌, ◌||◌, nat_eq, nat_le}
+use Rattle.std.specs.Prelude.{ℕ, zero, suc, ◌+◌, ◌*◌, ◌/◌, ◌%◌, Option, Some, None, Bool, cond, ◌&&◌, ◌||◌, nat_eq, nat_le}
 
 -- the byte at each address
 abbrev pub Bytes : Type 0

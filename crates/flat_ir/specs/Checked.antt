@@ -1,5 +1,5 @@
 -- Programs that hold together.
-use Rattle.std.specs.Prelude.{ℕ, zero, suc, ◌+◌, ◌<◌, ◌≤◌, Bool, true, false, not, ◌&&◌, ◌||◌, nat_eq, nat_le, nat_lt, cond, List, [], ◌∷◌, length, slice_get, Option, Some, None}
+use Rattle.std.specs.Prelude.{ℕ, zero, suc, ◌+◌, Bool, true, false, not, ◌&&◌, ◌||◌, nat_eq, nat_le, nat_lt, List, [], ◌∷◌, length, slice_get, Option, Some, None}
 use Rattle.std.specs.List.{list_all}
 use Rattle.flat_ir.specs.declared.program.Fix.{Fix}
 use Rattle.flat_ir.specs.declared.program.Target.{Target}

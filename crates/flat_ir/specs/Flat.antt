@@ -1,5 +1,5 @@
 -- What a program does: what is seen of it by n units. A unit is a turn of a loop where it goes back, a call, a byte asked for or given, and the end.
-use Rattle.std.specs.Prelude.{ℕ, zero, suc, ◌+◌, ◌-◌, ◌%◌, ◌^◌, ◌==◌, List, [], ◌∷◌, ◌++◌, length, replicate, Option, Some, None, Bool, cond, nat_le, if◌then◌else◌, slice_get, slice_set, slice_index}
+use Rattle.std.specs.Prelude.{ℕ, zero, suc, ◌+◌, ◌-◌, ◌%◌, ◌^◌, ◌==◌, List, [], ◌∷◌, ◌++◌, length, replicate, Option, Some, None, cond, nat_le, if◌then◌else◌, slice_get, slice_set, slice_index}
 use Rattle.std.specs.Int.{w32, cast_signed}
 use Rattle.behaviour.specs.Behaviour as B
 use Rattle.behaviour.specs.Behaviour.{Ending, Running, Stopped, Limited, Wrong, Seen, Behaviour}

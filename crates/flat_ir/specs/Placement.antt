@@ -5,7 +5,7 @@ use Rattle.jf_base.specs.declared.place.Limits.{Limits}
 use Rattle.flat_ir.specs.declared.program.Fix.{Fix}
 use Rattle.flat_ir.specs.declared.program.Target.{Target}
 use Rattle.flat_ir.specs.declared.program.Target.TheVariants as T
-use Rattle.flat_ir.specs.Bytes.{Bytes, Area, Areas, put}
+use Rattle.flat_ir.specs.Bytes.{Bytes, Areas, put}
 
 -- where the image begins, the address of each procedure, and the limits
 pub record Placement : Type 0 where

@@ -1,5 +1,5 @@
 -- The trees that statements, expressions and procedures are.
-use Rattle.std.specs.Prelude.{ℕ, List, [], ◌∷◌, map}
+use Rattle.std.specs.Prelude.{List, [], ◌∷◌, map}
 use Rattle.flat_ir.specs.declared.program.FlatExpr.{FlatExpr, end_of-FlatExpr, more_of-FlatExpr}
 use Rattle.flat_ir.specs.declared.program.FlatExpr.TheVariants as E
 use Rattle.flat_ir.specs.declared.program.FlatStmt.{FlatStmt, Row_of-FlatStmt, end_of-FlatStmt, more_of-FlatStmt}

@@ -1,13 +1,12 @@
-use jf_base::List;
-
-use crate::program::{Fix, FlatExpr, FlatProc, FlatProgram, FlatStmt, Target};
-
 ghost use Rattle.std.specs.Prelude.{◌≡◌, ◌&&◌, ◌||◌, [], length, nat_lt, slice_get};
 ghost use Rattle.std.specs.List.{list_all};
 ghost use Rattle.flat_ir.specs.Exits.{answers_of};
 ghost use Rattle.flat_ir.specs.Checked.{all_apart, any_is, any_uses, are_apart, asked_behind, asks, each_below, entry_fits, expr_fits, exprs_fit, fix_fits, is_ok, is_set_first, proc_fits, results_fit, stmt_fits, target_fits, uses};
 ghost use Rattle.flat_ir.specs.Tree;
 ghost use Rattle.flat_ir.specs.View.{expr_of, exprs_of, proc_of, procs_of, stmt_of, stmts_of};
+
+use crate::program::{Fix, FlatExpr, FlatProc, FlatProgram, FlatStmt, Target};
+use jf_base::List;
 
 /// How many values, procedures and bytes of the image there are.
 #[derive(Clone, Copy, Drop)]
@@ -321,7 +320,10 @@ fn are_procs_ok(p: &FlatProgram) -> bool
 {
     let procs = p.procs.len();
     let bytes = p.image.len();
-    p.procs.as_slice().iter().all(|f| is_proc_ok(f, procs, bytes))
+    p.procs
+        .as_slice()
+        .iter()
+        .all(|f| is_proc_ok(f, procs, bytes))
 }
 
 fn are_fixes_in_image(p: &FlatProgram) -> bool
@@ -329,7 +331,10 @@ fn are_fixes_in_image(p: &FlatProgram) -> bool
 {
     let procs = p.procs.len();
     let bytes = p.image.len();
-    p.fixes.as_slice().iter().all(|f| is_fix_ok(f, procs, bytes))
+    p.fixes
+        .as_slice()
+        .iter()
+        .all(|f| is_fix_ok(f, procs, bytes))
 }
 
 fn are_fixes_ok(p: &FlatProgram) -> bool

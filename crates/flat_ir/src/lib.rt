@@ -9,6 +9,4 @@ mod tests;
 
 pub use checks::flat_ok;
 pub use laws::depth_is_free;
-pub use program::{
-    Exceeded, Fix, FlatExpr, FlatProc, FlatProgram, FlatStmt, Operation, Target,
-};
+pub use program::{Exceeded, Fix, FlatExpr, FlatProc, FlatProgram, FlatStmt, Operation, Target};
