@@ -1,3 +1,4 @@
 pub mod Values
 pub mod Sim
 pub mod Statements
+pub mod Correct

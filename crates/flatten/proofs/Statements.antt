@@ -70,7 +70,7 @@ module _ (K : ℕ) (some : 1 ≤ K) (g : Places) (ps : List BlockProc) (procs by
       same zero = e0
       same (suc j) = e j
 
-  return_same : (p n : ℕ) (f : BlockProc) (stack : List Waiting) (ys vals env' : List ℕ) (w : World) (back : Back) → held env' ys ≡ vals → BackSame K some g ps procs bytes p n f stack back → Same K p n (back vals w) (running K some g ps procs bytes f stack (only (E.Return ys)) env' w)
+  pub return_same : (p n : ℕ) (f : BlockProc) (stack : List Waiting) (ys vals env' : List ℕ) (w : World) (back : Back) → held env' ys ≡ vals → BackSame K some g ps procs bytes p n f stack back → Same K p n (back vals w) (running K some g ps procs bytes f stack (only (E.Return ys)) env' w)
   return_same p n f stack ys vals env' w back e hb = alike K some p n _ _ (leaving K some g ps procs bytes f stack vals w) same (hb vals w)
     where
       same : (j : ℕ) → running K some g ps procs bytes f stack (only (E.Return ys)) env' w j ≡ leaving K some g ps procs bytes f stack vals w j

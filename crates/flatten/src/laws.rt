@@ -1,0 +1,17 @@
+ghost use Rattle.std.specs.Prelude.{true, ℕ, List, ◌≡◌};
+ghost use Rattle.behaviour.specs.Follows.{Follows};
+ghost use Rattle.flat_ir.specs.declared.program.FlatProgram.{FlatProgram};
+ghost use Rattle.flat_ir.specs.Checked.{is_ok};
+ghost use Rattle.flat_ir.specs.Flat.{flat};
+ghost use Rattle.flat_ir.specs.Placement.{Placement};
+ghost use Rattle.flat_ir.specs.View.{procs_of};
+ghost use Rattle.flatten.specs.Blocks.{blocks};
+ghost use Rattle.flatten.specs.Code.{program_code};
+ghost use Rattle.flatten.specs.Sizes.{sizes_of};
+
+/// The blocks of a program that holds together follow the program, wherever it is placed, and whatever its limits and its input:
+/// they take at most as many steps a unit as the program is long.
+pub fn blocks_follow_the_program()
+    ensures { (p : FlatProgram) → is_ok p ≡ true → (g : Placement) (input : List ℕ)
+        → Follows (sizes_of (procs_of p.procs)) (blocks (program_code p) g input) (flat p g input) }
+{}
