@@ -1,5 +1,5 @@
 -- The blocks of a program follow the program.
-use Rattle.std.proofs.Common.{◌≡◌, ℕ, zero, suc, ◌+◌, ◌-◌, ◌*◌, ◌<◌, ◌≤◌, List, [], ◌∷◌, ◌++◌, length, map, Option, Some, None, Bool, true, false, refl, sym, ap, ◌∙◌, subst, arith, append_assoc, length-append, inl, inr, zero-add}
+use Rattle.std.proofs.Common.{◌≡◌, ℕ, zero, suc, ◌+◌, ◌-◌, ◌<◌, ◌≤◌, List, [], ◌∷◌, ◌++◌, length, map, Option, Some, None, Bool, true, false, refl, sym, ap, ◌∙◌, subst, arith, append_assoc, length-append, inl, inr, zero-add}
 use Rattle.std.specs.Prelude.{◌⊎◌, ◌&&◌, ◌==◌, slice_get, slice_index, nat_le, replicate}
 use Rattle.std.specs.List.{list_all}
 use Rattle.std.specs.Option.{option_map}
@@ -9,9 +9,9 @@ use Rattle.std.proofs.lemmas.Option.{slice_get-get_or, slice_get-map}
 use Rattle.behaviour.specs.Behaviour as B
 use Rattle.behaviour.specs.Behaviour.{Running, Limited, Wrong, Seen, Behaviour}
 use Rattle.behaviour.specs.Follows.{Follows}
-use Rattle.work.specs.Units.{unit, ended, with_value}
+use Rattle.work.specs.Units.{with_value}
 use Rattle.work.specs.Same.{Same}
-use Rattle.work.proofs.Same.{less, dearer, alike, tick, ends, wrong, nothing_yet, same_follows}
+use Rattle.work.proofs.Same.{less, alike, tick, ends, wrong, nothing_yet, same_follows}
 use Rattle.flat_ir.specs.declared.program.FlatProc.{FlatProc}
 use Rattle.flat_ir.specs.declared.program.FlatProgram.{FlatProgram}
 use Rattle.flat_ir.specs.Placement.{Placement, Places, places, first_bytes, entry_arguments}
@@ -25,10 +25,10 @@ use Rattle.flatten.specs.declared.blocks.BlockEnd.TheVariants as E
 use Rattle.flatten.specs.declared.blocks.Block.{Block}
 use Rattle.flatten.specs.declared.blocks.BlockProc.{BlockProc}
 use Rattle.flatten.specs.Blocks.{Waiting, if_value, at_block, enter, exec, blocks, params_of}
-use Rattle.flatten.specs.Code.{only, code, Code, spare_of, body_code, proc_code, program_code}
+use Rattle.flatten.specs.Code.{only, spare_of, body_code, proc_code, program_code}
 use Rattle.flatten.specs.Sizes.{size_of, sizes_of}
 use Rattle.flatten.proofs.Values.{and_left, and_right, Agrees}
-use Rattle.flatten.proofs.Sim.{HasAt, running, leaving, giving, calling, NextSame, LeavesSame, BackSame, GivesSame, CallsSame}
+use Rattle.flatten.proofs.Sim.{HasAt, running, leaving, giving, calling, NextSame, BackSame, GivesSame, CallsSame}
 use Rattle.flatten.proofs.Statements.{return_same, stmt_same}
 
 has_all : (ks pre : List Block) → HasAt (pre ++ ks) (length pre) ks
@@ -84,12 +84,18 @@ frames_same params v n args le lv = go (length args == params) refl
     go false e = inl (rw e refl, rw e refl)
     go true e =
         let l : length args ≡ params = grind (arith, nat_tests) in
-        inr (args ++ replicate (v - params) 0, args ++ replicate (n - params) 0, rw e refl, rw e refl, record {
-          long = omega (arith, length-append args (replicate (v - params) 0), length-zeros (v - params));
-          wide = omega (arith, length-append args (replicate (n - params) 0), length-zeros (n - params));
-          fits = lv;
-          same = λ x lt. padded args (n - params) x ∙ sym (padded args (v - params) x);
-        })
+        inr (
+          args ++ replicate (v - params) 0,
+          args ++ replicate (n - params) 0,
+          rw e refl,
+          rw e refl,
+          record {
+            long = omega (arith, length-append args (replicate (v - params) 0), length-zeros (v - params));
+            wide = omega (arith, length-append args (replicate (n - params) 0), length-zeros (n - params));
+            fits = lv;
+            same = λ x lt. padded args (n - params) x ∙ sym (padded args (v - params) x);
+          },
+        )
 
 module _ (K : ℕ) (some : 1 ≤ K) (g : Places) (ps : List BlockProc) (procs bytes : ℕ) where
   returns : (f : Procedure) (stack : List Waiting) (p n : ℕ) (back : Back) → GivesSame K some g ps procs bytes p n stack back → BackSame K some g ps procs bytes p n (proc_code f) stack (returning f.charge back)
@@ -124,11 +130,11 @@ module _ (K : ℕ) (some : 1 ≤ K) (g : Places) (ps : List BlockProc) (procs by
       begins env env' ef a None ec =
           ends K some p n (seen w Running) (seen w (Limited B.Frames)) _ refl
           (λ j. ap (λ o. enter o g (exec ps g j) args w stack) e ∙ ap (λ o. if_value o (seen w Wrong) (λ env. if_value (charged g.frames f.charge w) (seen w (Limited B.Frames)) (λ w'. at_block (slice_get (proc_code f).blocks 0) (exec ps g j) (proc_code f) env w' stack))) ef
-            ∙ ap (λ o. if_value o (seen w (Limited B.Frames)) (λ w'. at_block (slice_get (proc_code f).blocks 0) (exec ps g j) (proc_code f) env' w' stack)) ec)
+          ∙ ap (λ o. if_value o (seen w (Limited B.Frames)) (λ w'. at_block (slice_get (proc_code f).blocks 0) (exec ps g j) (proc_code f) env' w' stack)) ec)
       begins env env' ef a (Some w') ec =
           tick K some p (p + size_of f.body) n (seen w Running) (meaning f.body g calls d (returning f.charge back) nowhere (λ env w. returning f.charge back [] w) env w') _ (running K some g ps procs bytes (proc_code f) stack (body_code f).first env' w') refl
           (λ j. ap (λ o. enter o g (exec ps g j) args w stack) e ∙ ap (λ o. if_value o (seen w Wrong) (λ env. if_value (charged g.frames f.charge w) (seen w (Limited B.Frames)) (λ w'. at_block (slice_get (proc_code f).blocks 0) (exec ps g j) (proc_code f) env w' stack))) ef
-            ∙ ap (λ o. if_value o (seen w (Limited B.Frames)) (λ w'. at_block (slice_get (proc_code f).blocks 0) (exec ps g j) (proc_code f) env' w' stack)) ec)
+          ∙ ap (λ o. if_value o (seen w (Limited B.Frames)) (λ w'. at_block (slice_get (proc_code f).blocks 0) (exec ps g j) (proc_code f) env' w' stack)) ec)
           (omega (arith, (fit f refl).0))
           (λ m lm. body_same f stack p m d calls back (fit f refl).1 (fit f refl).0 (omega arith) (hc m lm) (λ rs w. less K some p n m _ _ (omega arith) (hb rs w)) env env' w' a)
 

@@ -2,3 +2,4 @@ pub mod Values
 pub mod Sim
 pub mod Statements
 pub mod Correct
+pub mod Named

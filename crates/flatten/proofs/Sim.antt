@@ -1,28 +1,25 @@
 -- The blocks of a statement show what the statement shows.
-use Rattle.std.proofs.Common.{◌≡◌, ℕ, zero, suc, ◌+◌, ◌-◌, ◌*◌, ◌%◌, ◌<◌, ◌≤◌, List, [], ◌∷◌, ◌++◌, length, Option, Some, None, Bool, true, refl, sym, ap, ◌∙◌, subst, arith, length-append, inl, inr, ⊎_elim}
-use Rattle.std.specs.Prelude.{◌⊎◌, ◌&&◌, slice_get, slice_set, slice_index, nat_lt, nat_le}
-use Rattle.std.specs.List.{list_all}
-use Rattle.behaviour.specs.Behaviour.{Running, Limited, Wrong, Seen, Behaviour}
-use Rattle.work.specs.Units.{unit, ended, with_value}
+use Rattle.std.proofs.Common.{◌≡◌, ℕ, zero, suc, ◌+◌, ◌-◌, ◌<◌, ◌≤◌, List, [], ◌∷◌, ◌++◌, length, Some, true, refl, ap, ◌∙◌, subst, arith, length-append}
+use Rattle.std.specs.Prelude.{slice_get, slice_set, slice_index}
+use Rattle.behaviour.specs.Behaviour.{Running, Wrong, Behaviour}
+use Rattle.work.specs.Units.{with_value}
 use Rattle.work.specs.Same.{Same}
-use Rattle.work.proofs.Same.{less, dearer, alike, later, tick, ends, wrong, valued, nothing_yet} 
+use Rattle.work.proofs.Same.{dearer, later, valued}
 use Rattle.jf_base.specs.Numbers.{size_of_width}
-use Rattle.flat_ir.specs.Bytes.{Bytes, loaded, stored}
+use Rattle.flat_ir.specs.Bytes.{loaded}
 use Rattle.flat_ir.specs.Operations.{result_of, extended}
-use Rattle.flat_ir.specs.Placement.{Places, proc_at}
-use Rattle.flat_ir.specs.Tree.{Expr, Num, Val, Bin, Load, ProcAt, ImageAt, Stmt, Skip, Seq, Set, Store, Call, CallAt, If, Loop, Break, Return, Take, Give, Stop, Limit, Procedure}
-use Rattle.flat_ir.specs.Checked.{expr_fits, exprs_fit, results_fit, stmt_fits}
-use Rattle.flat_ir.specs.Flat.{World, seen, with_memory, with_frames, gave, took, first_byte, Next, Back, Calls, Leaves, over, halted, on, at_zero, eval, evals, received, receiving, turns, inside, stop_code, limit_of, meaning}
-use Rattle.flatten.specs.declared.blocks.BlockInsn.{BlockInsn}
+use Rattle.flat_ir.specs.Placement.{Places}
+use Rattle.flat_ir.specs.Tree.{Expr, Num, Val, Bin, Load, ProcAt, ImageAt, Stmt, Skip, Seq, Set, Store, Call, CallAt, If, Loop, Break, Return, Take, Give, Stop, Limit}
+use Rattle.flat_ir.specs.Checked.{expr_fits, exprs_fit}
+use Rattle.flat_ir.specs.Flat.{World, seen, with_frames, Next, Back, Calls, Leaves, over, eval, evals}
 use Rattle.flatten.specs.declared.blocks.BlockInsn.TheVariants as I
-use Rattle.flatten.specs.declared.blocks.BlockEnd.{BlockEnd}
 use Rattle.flatten.specs.declared.blocks.BlockEnd.TheVariants as E
 use Rattle.flatten.specs.declared.blocks.Block.{Block}
 use Rattle.flatten.specs.declared.blocks.BlockProc.{BlockProc}
-use Rattle.flatten.specs.Blocks.{Waiting, State, Go, held, if_value, at_block, enter, give_back, branch_to, exec}
-use Rattle.flatten.specs.Code.{only, before, place, front, expr_code, operand, operands, places_of, count, Code, behind, code, spare, spares, spare_of}
-use Rattle.flatten.specs.Sizes.{size_of_expr, size_of_exprs, size_of}
-use Rattle.flatten.proofs.Values.{and_left, and_right, below, Agrees, Computed, Put, Listed, put_done, put_after, of_put, agrees_on, agrees_set, agrees_both, received_same, place_low}
+use Rattle.flatten.specs.Blocks.{Waiting, held, if_value, enter, give_back, exec}
+use Rattle.flatten.specs.Code.{only, before, place, expr_code, operand, operands, places_of, count, behind, code, spare, spares}
+use Rattle.flatten.specs.Sizes.{size_of_expr, size_of_exprs}
+use Rattle.flatten.proofs.Values.{and_left, and_right, below, Agrees, Computed, Put, Listed, put_done, put_after, of_put, agrees_on, place_low}
 
 -- the blocks stand from this number on
 abbrev pub HasAt : List Block → ℕ → List Block → Type 0
@@ -133,14 +130,14 @@ module _ (K : ℕ) (some : 1 ≤ K) (g : Places) (ps : List BlockProc) (procs by
       let last = before (I.Binary o x pb pc) k in
       let all : Same K (p + 1 + size_of_expr c + size_of_expr b) n (eval (Bin o b c) g env w kont) (running f stack (expr_code (Bin o b c) x t k) env' w) =
       from_code b t v (p + 1 + size_of_expr c) n f stack (operand c (t + 1) last) env env' w (λ vb. eval c g env w (λ vc. kont (result_of o vb vc))) okb a
-        (λ r. expr_same b t t v (p + 1 + size_of_expr c) n f stack (operand c (t + 1) last) env env' w (λ vb. eval c g env w (λ vc. kont (result_of o vb vc))) okb le (omega arith) (omega arith) a r)
-        (λ vb env1 c1. (let a1 = agrees_on v f.values t env env' env1 le a c1.wide c1.keeps in
-          from_code c (t + 1) v (p + 1) n f stack last env env1 w (λ vc. kont (result_of o vb vc)) okc a1
-          (λ r. expr_same c (t + 1) (t + 1) v (p + 1) n f stack last env env1 w (λ vc. kont (result_of o vb vc)) okc (omega arith) (omega arith) (omega arith) a1 r)
-          (λ vc env2 c2. (let e : result_of o (slice_index env2 pb) (slice_index env2 pc) ≡ result_of o vb vc = ap (λ i. result_of o i (slice_index env2 pc)) (c2.keeps pb (omega arith) ∙ c1.has) ∙ ap (λ i. result_of o vb i) c2.has in
-            later K some p (p + 1) n _ _ _ refl (λ j. refl) (omega arith)
-            (h (result_of o vb vc) (slice_set env2 x (result_of o (slice_index env2 pb) (slice_index env2 pc)))
-            (put_after f.values t t x (result_of o (slice_index env2 pb) (slice_index env2 pc)) (result_of o vb vc) env' env2 c2.wide lt e (omega arith) (λ y ly. c2.keeps y (omega arith) ∙ c1.keeps y ly))))))) in
+      (λ r. expr_same b t t v (p + 1 + size_of_expr c) n f stack (operand c (t + 1) last) env env' w (λ vb. eval c g env w (λ vc. kont (result_of o vb vc))) okb le (omega arith) (omega arith) a r)
+      (λ vb env1 c1. (let a1 = agrees_on v f.values t env env' env1 le a c1.wide c1.keeps in
+      from_code c (t + 1) v (p + 1) n f stack last env env1 w (λ vc. kont (result_of o vb vc)) okc a1
+      (λ r. expr_same c (t + 1) (t + 1) v (p + 1) n f stack last env env1 w (λ vc. kont (result_of o vb vc)) okc (omega arith) (omega arith) (omega arith) a1 r)
+      (λ vc env2 c2. (let e : result_of o (slice_index env2 pb) (slice_index env2 pc) ≡ result_of o vb vc = ap (λ i. result_of o i (slice_index env2 pc)) (c2.keeps pb (omega arith) ∙ c1.has) ∙ ap (λ i. result_of o vb i) c2.has in
+      later K some p (p + 1) n _ _ _ refl (λ j. refl) (omega arith)
+      (h (result_of o vb vc) (slice_set env2 x (result_of o (slice_index env2 pb) (slice_index env2 pc)))
+      (put_after f.values t t x (result_of o (slice_index env2 pb) (slice_index env2 pc)) (result_of o vb vc) env' env2 c2.wide lt e (omega arith) (λ y ly. c2.keeps y (omega arith) ∙ c1.keeps y ly))))))) in
       dearer K some (p + 1 + size_of_expr c + size_of_expr b) (p + (1 + size_of_expr b + size_of_expr c)) n _ _ (omega arith) all
   expr_same (Load s i b) x t v p n f stack k env env' w kont ok le room lt a h =
       let pb = place b t in
@@ -148,13 +145,13 @@ module _ (K : ℕ) (some : 1 ≤ K) (g : Places) (ps : List BlockProc) (procs by
       let then : ℕ → Behaviour = λ at. with_value (loaded (size_of_width s) g.areas w.memory at) (over w Wrong) (λ u. kont (extended s i u)) in
       let all : Same K (p + 1 + size_of_expr b) n (eval (Load s i b) g env w kont) (running f stack (expr_code (Load s i b) x t k) env' w) =
       from_code b t v (p + 1) n f stack last env env' w then ok a
-        (λ r. expr_same b t t v (p + 1) n f stack last env env' w then ok le (omega arith) (omega arith) a r)
-        (λ vb env1 c1. valued K some (p + 1) n (seen w Running) (seen w Wrong) (loaded (size_of_width s) g.areas w.memory vb) (λ u. kont (extended s i u)) _ refl refl
-          (λ u eu. later K some p (p + 1) n _ _ (running f stack k (slice_set env1 x (extended s i u)) w) refl
-            (λ j. ap (λ o. if_value o (seen w Wrong) (λ u. exec ps g j (record { proc = f; rest = k; env = slice_set env1 x (extended s i u); world = w; stack = stack })))
-              (ap (λ at. loaded (size_of_width s) g.areas w.memory at) c1.has ∙ eu))
-            (omega arith)
-            (h (extended s i u) (slice_set env1 x (extended s i u)) (put_after f.values t t x (extended s i u) (extended s i u) env' env1 c1.wide lt refl (omega arith) c1.keeps)))) in
+      (λ r. expr_same b t t v (p + 1) n f stack last env env' w then ok le (omega arith) (omega arith) a r)
+      (λ vb env1 c1. valued K some (p + 1) n (seen w Running) (seen w Wrong) (loaded (size_of_width s) g.areas w.memory vb) (λ u. kont (extended s i u)) _ refl refl
+      (λ u eu. later K some p (p + 1) n _ _ (running f stack k (slice_set env1 x (extended s i u)) w) refl
+      (λ j. ap (λ o. if_value o (seen w Wrong) (λ u. exec ps g j (record { proc = f; rest = k; env = slice_set env1 x (extended s i u); world = w; stack = stack })))
+      (ap (λ at. loaded (size_of_width s) g.areas w.memory at) c1.has ∙ eu))
+      (omega arith)
+      (h (extended s i u) (slice_set env1 x (extended s i u)) (put_after f.values t t x (extended s i u) (extended s i u) env' env1 c1.wide lt refl (omega arith) c1.keeps)))) in
       dearer K some (p + 1 + size_of_expr b) (p + (1 + size_of_expr b)) n _ _ (omega arith) all
   expr_same (ProcAt m) x t v p n f stack k env env' w kont ok le room lt a h =
       later K some p (p + 1) n _ _ _ refl (λ j. refl) (omega arith) (h (g.procs m) (slice_set env' x (g.procs m)) (put_done f.values t x (g.procs m) (g.procs m) env' a.wide lt refl))
@@ -178,6 +175,6 @@ module _ (K : ℕ) (some : 1 ≤ K) (g : Places) (ps : List BlockProc) (procs by
       let low : place e t ≤ t = place_low e v procs bytes t oke le in
       let all : Same K (p + size_of_exprs es + size_of_expr e) n (evals (e ∷ es) g env w kont) (running f stack (operands (e ∷ es) t k) env' w) =
       operand_same e t v (p + size_of_exprs es) n f stack (operands es (t + 1) k) env env' w (λ val. evals es g env w (λ vals. kont (val ∷ vals))) oke le (omega arith) a
-        (λ val env1 c1 a1. operands_same es (t + 1) v p n f stack k env env1 w (λ vals. kont (val ∷ vals)) okes (omega arith) (omega arith) a1
-          (λ vals env2 c2 a2. h (val ∷ vals) env2 (record { wide = c2.wide; has = ap (λ i. i ∷ held env2 (places_of es (t + 1))) (c2.keeps (place e t) (omega arith) ∙ c1.has) ∙ ap (λ l. val ∷ l) c2.has; keeps = λ y ly. c2.keeps y (omega arith) ∙ c1.keeps y ly }) a2)) in
+      (λ val env1 c1 a1. operands_same es (t + 1) v p n f stack k env env1 w (λ vals. kont (val ∷ vals)) okes (omega arith) (omega arith) a1
+      (λ vals env2 c2 a2. h (val ∷ vals) env2 (record { wide = c2.wide; has = ap (λ i. i ∷ held env2 (places_of es (t + 1))) (c2.keeps (place e t) (omega arith) ∙ c1.has) ∙ ap (λ l. val ∷ l) c2.has; keeps = λ y ly. c2.keeps y (omega arith) ∙ c1.keeps y ly }) a2)) in
       dearer K some (p + size_of_exprs es + size_of_expr e) (p + (size_of_expr e + size_of_exprs es)) n _ _ (omega arith) all

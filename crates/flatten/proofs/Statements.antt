@@ -1,15 +1,15 @@
 -- The blocks of a statement show what the statement shows.
-use Rattle.std.proofs.Common.{◌≡◌, ℕ, zero, suc, ◌+◌, ◌-◌, ◌*◌, ◌%◌, ◌<◌, ◌≤◌, List, [], ◌∷◌, ◌++◌, length, Option, Some, None, Bool, true, refl, sym, ap, ◌∙◌, subst, arith, inl, inr, ⊎_elim}
+use Rattle.std.proofs.Common.{◌≡◌, ℕ, zero, suc, ◌+◌, ◌-◌, ◌%◌, ◌<◌, ◌≤◌, List, [], ◌∷◌, ◌++◌, length, Some, None, true, refl, sym, ap, ◌∙◌, subst, arith, inl, inr}
 use Rattle.std.specs.Prelude.{◌⊎◌, ◌&&◌, slice_get, slice_set, slice_index, nat_lt, nat_le}
 use Rattle.std.specs.List.{list_all}
-use Rattle.behaviour.specs.Behaviour.{Running, Limited, Wrong, Seen, Behaviour}
-use Rattle.work.specs.Units.{unit, ended, with_value}
+use Rattle.behaviour.specs.Behaviour.{Running, Limited, Wrong, Behaviour}
+use Rattle.work.specs.Units.{with_value}
 use Rattle.work.specs.Same.{Same}
 use Rattle.work.proofs.Same.{less, dearer, alike, later, tick, ends, wrong, valued, nothing_yet}
 use Rattle.jf_base.specs.Numbers.{size_of_width}
-use Rattle.flat_ir.specs.Bytes.{Bytes, loaded, stored}
+use Rattle.flat_ir.specs.Bytes.{stored}
 use Rattle.flat_ir.specs.Placement.{Places, proc_at}
-use Rattle.flat_ir.specs.Tree.{Expr, Stmt, Skip, Seq, Set, Store, Call, CallAt, If, Loop, Break, Return, Take, Give, Stop, Limit}
+use Rattle.flat_ir.specs.Tree.{Stmt, Skip, Seq, Set, Store, Call, CallAt, If, Loop, Break, Return, Take, Give, Stop, Limit}
 use Rattle.flat_ir.specs.Checked.{expr_fits, exprs_fit, results_fit, stmt_fits}
 use Rattle.flat_ir.specs.Flat.{World, seen, with_memory, with_frames, gave, took, first_byte, Next, Back, Calls, Leaves, over, on, at_zero, eval, evals, received, receiving, turns, inside, stop_code, limit_of, meaning}
 use Rattle.flatten.specs.declared.blocks.BlockInsn.TheVariants as I
@@ -17,9 +17,9 @@ use Rattle.flatten.specs.declared.blocks.BlockEnd.TheVariants as E
 use Rattle.flatten.specs.declared.blocks.Block.{Block}
 use Rattle.flatten.specs.declared.blocks.BlockProc.{BlockProc}
 use Rattle.flatten.specs.Blocks.{Waiting, held, if_value, at_block, enter, give_back, branch_to, exec}
-use Rattle.flatten.specs.Code.{only, before, place, expr_code, operand, operands, places_of, count, Code, behind, code, spare, spares, spare_of}
+use Rattle.flatten.specs.Code.{only, before, place, operand, operands, places_of, count, code, spare_of}
 use Rattle.flatten.specs.Sizes.{size_of_expr, size_of_exprs, size_of}
-use Rattle.flatten.proofs.Values.{and_left, and_right, below, Agrees, Computed, Put, Listed, agrees_on, agrees_set, agrees_both, received_same, place_low, put_done}
+use Rattle.flatten.proofs.Values.{and_left, and_right, below, Agrees, agrees_set, agrees_both, received_same, place_low}
 use Rattle.flatten.proofs.Sim.{HasAt, has_front, has_back, code_count, running, leaving, giving, calling, NextSame, LeavesSame, BackSame, GivesSame, CallsSame, expr_same, operand_same, operands_same}
 
 module _ (K : ℕ) (some : 1 ≤ K) (g : Places) (ps : List BlockProc) (procs bytes : ℕ) where
@@ -95,7 +95,7 @@ module _ (K : ℕ) (some : 1 ≤ K) (g : Places) (ps : List BlockProc) (procs by
       let p' = p + size_of y in
       let second = stmt_same y f stack v (at + count x) loops exits k (has_back f.blocks at (count x) cx.others cy.others (code_count x v at exits cy.first) has) oky (omega arith) (omega arith) p n d calls back leaves next ld hc hb hl hn in
       let all = stmt_same x f stack v at loops exits cy.first (has_front f.blocks at cx.others cy.others has) okx (omega arith) (omega arith) p' n d calls back leaves (meaning y g calls d back leaves next) ld hc
-        (λ rs w. dearer K some p p' n _ _ (omega arith) (hb rs w)) (λ j lj env env' w a. dearer K some p p' n _ _ (omega arith) (hl j lj env env' w a)) second in
+      (λ rs w. dearer K some p p' n _ _ (omega arith) (hb rs w)) (λ j lj env env' w a. dearer K some p p' n _ _ (omega arith) (hl j lj env env' w a)) second in
       dearer K some (p' + size_of x) (p + (size_of x + size_of y)) n _ _ (omega arith) (all env env' w a)
   stmt_same (Set x e) f stack v at loops exits k has ok room le p n d calls back leaves next ld hc hb hl hn env env' w a =
       let lt : x < v = below x v (and_left (nat_lt x v) (expr_fits v procs bytes e) ok) in
@@ -112,12 +112,12 @@ module _ (K : ℕ) (some : 1 ≤ K) (g : Places) (ps : List BlockProc) (procs by
       let then : ℕ → ℕ → Behaviour = λ i val. with_value (stored (size_of_width s) g.areas w.memory i val) (over w Wrong) (λ m. next env (with_memory w m)) in
       let all : Same K (p + 1 + size_of_expr y + size_of_expr x) n (meaning (Store s x y) g calls d back leaves next env w) (running K some g ps procs bytes f stack (operand x v (operand y (v + 1) last)) env' w) =
       operand_same K some g ps procs bytes x v v (p + 1 + size_of_expr y) n f stack (operand y (v + 1) last) env env' w (λ i. eval y g env w (then i)) okx (omega arith) (omega arith) a
-        (λ i env1 c1 a1. operand_same K some g ps procs bytes y (v + 1) v (p + 1) n f stack last env env1 w (then i) oky (omega arith) (omega arith) a1
-          (λ val env2 c2 a2. valued K some (p + 1) n (seen w Running) (seen w Wrong) (stored (size_of_width s) g.areas w.memory i val) (λ m. next env (with_memory w m)) _ refl refl
-            (λ m em. later K some p (p + 1) n _ _ (running K some g ps procs bytes f stack k env2 (with_memory w m)) refl
-              (λ j. ap (λ o. if_value o (seen w Wrong) (λ m. exec ps g j (record { proc = f; rest = k; env = env2; world = with_memory w m; stack = stack })))
-                (ap (λ i. stored (size_of_width s) g.areas w.memory i (slice_index env2 py)) (c2.keeps px (omega arith) ∙ c1.has) ∙ (ap (λ u. stored (size_of_width s) g.areas w.memory i u) c2.has ∙ em)))
-              (omega arith) (hn env env2 (with_memory w m) a2)))) in
+      (λ i env1 c1 a1. operand_same K some g ps procs bytes y (v + 1) v (p + 1) n f stack last env env1 w (then i) oky (omega arith) (omega arith) a1
+      (λ val env2 c2 a2. valued K some (p + 1) n (seen w Running) (seen w Wrong) (stored (size_of_width s) g.areas w.memory i val) (λ m. next env (with_memory w m)) _ refl refl
+      (λ m em. later K some p (p + 1) n _ _ (running K some g ps procs bytes f stack k env2 (with_memory w m)) refl
+      (λ j. ap (λ o. if_value o (seen w Wrong) (λ m. exec ps g j (record { proc = f; rest = k; env = env2; world = with_memory w m; stack = stack })))
+      (ap (λ i. stored (size_of_width s) g.areas w.memory i (slice_index env2 py)) (c2.keeps px (omega arith) ∙ c1.has) ∙ (ap (λ u. stored (size_of_width s) g.areas w.memory i u) c2.has ∙ em)))
+      (omega arith) (hn env env2 (with_memory w m) a2)))) in
       dearer K some (p + 1 + size_of_expr y + size_of_expr x) (p + (1 + size_of_expr x + size_of_expr y)) n _ _ (omega arith) all
   stmt_same (Call xs c es) f stack v at loops exits k has ok room le p n d calls back leaves next ld hc hb hl hn env env' w a =
       let okr = and_left (results_fit v xs) (nat_lt c procs && exprs_fit v procs bytes es) ok in
@@ -126,8 +126,8 @@ module _ (K : ℕ) (some : 1 ≤ K) (g : Places) (ps : List BlockProc) (procs by
       let last = before (I.Call xs c (places_of es v)) k in
       let all : Same K (p + 1 + size_of_exprs es) n (meaning (Call xs c es) g calls d back leaves next env w) (running K some g ps procs bytes f stack (operands es v last) env' w) =
       operands_same K some g ps procs bytes es v v (p + 1) n f stack last env env' w (λ vals. calls c vals w (receiving xs env next)) okes (omega arith) room a
-        (λ vals env1 c1 a1. call_same p n v c f stack k xs vals env env1 w calls next _ okxs a1 hc hn refl
-          (λ j. ap (λ l. enter (slice_get ps c) g (exec ps g j) l w (record { proc = f; rest = k; env = env1; targets = xs } ∷ stack)) c1.has)) in
+      (λ vals env1 c1 a1. call_same p n v c f stack k xs vals env env1 w calls next _ okxs a1 hc hn refl
+      (λ j. ap (λ l. enter (slice_get ps c) g (exec ps g j) l w (record { proc = f; rest = k; env = env1; targets = xs } ∷ stack)) c1.has)) in
       dearer K some (p + 1 + size_of_exprs es) (p + (1 + size_of_exprs es)) n _ _ (omega arith) all
   stmt_same (CallAt xs x es) f stack v at loops exits k has ok room le p n d calls back leaves next ld hc hb hl hn env env' w a =
       let okr = and_left (results_fit v xs) (expr_fits v procs bytes x && exprs_fit v procs bytes es) ok in
@@ -141,12 +141,12 @@ module _ (K : ℕ) (some : 1 ≤ K) (g : Places) (ps : List BlockProc) (procs by
       let then : ℕ → List ℕ → Behaviour = λ i vals. with_value (proc_at g.procs g.count i) (over w Wrong) (λ c. calls c vals w (receiving xs env next)) in
       let all : Same K (p + 1 + size_of_exprs es + size_of_expr x) n (meaning (CallAt xs x es) g calls d back leaves next env w) (running K some g ps procs bytes f stack (operand x v (operands es (v + 1) last)) env' w) =
       operand_same K some g ps procs bytes x v v (p + 1 + size_of_exprs es) n f stack (operands es (v + 1) last) env env' w (λ i. evals es g env w (then i)) okx (omega arith) (omega arith) a
-        (λ i env1 c1 a1. operands_same K some g ps procs bytes es (v + 1) v (p + 1) n f stack last env env1 w (then i) okes (omega arith) (omega arith) a1
-          (λ vals env2 c2 a2. valued K some (p + 1) n (seen w Running) (seen w Wrong) (proc_at g.procs g.count i) (λ c. calls c vals w (receiving xs env next)) _ refl refl
-            (λ c ec. call_same p n v c f stack k xs vals env env2 w calls next _ okxs a2 hc hn refl
-              (λ j. ap (λ o. if_value o (seen w Wrong) (λ c. enter (slice_get ps c) g (exec ps g j) (held env2 (places_of es (v + 1))) w (record { proc = f; rest = k; env = env2; targets = xs } ∷ stack)))
-                (ap (λ i. proc_at g.procs g.count i) (c2.keeps px (omega arith) ∙ c1.has) ∙ ec)
-                ∙ ap (λ l. enter (slice_get ps c) g (exec ps g j) l w (record { proc = f; rest = k; env = env2; targets = xs } ∷ stack)) c2.has)))) in
+      (λ i env1 c1 a1. operands_same K some g ps procs bytes es (v + 1) v (p + 1) n f stack last env env1 w (then i) okes (omega arith) (omega arith) a1
+      (λ vals env2 c2 a2. valued K some (p + 1) n (seen w Running) (seen w Wrong) (proc_at g.procs g.count i) (λ c. calls c vals w (receiving xs env next)) _ refl refl
+      (λ c ec. call_same p n v c f stack k xs vals env env2 w calls next _ okxs a2 hc hn refl
+      (λ j. ap (λ o. if_value o (seen w Wrong) (λ c. enter (slice_get ps c) g (exec ps g j) (held env2 (places_of es (v + 1))) w (record { proc = f; rest = k; env = env2; targets = xs } ∷ stack)))
+      (ap (λ i. proc_at g.procs g.count i) (c2.keeps px (omega arith) ∙ c1.has) ∙ ec)
+      ∙ ap (λ l. enter (slice_get ps c) g (exec ps g j) l w (record { proc = f; rest = k; env = env2; targets = xs } ∷ stack)) c2.has)))) in
       dearer K some (p + 1 + size_of_exprs es + size_of_expr x) (p + (1 + size_of_expr x + size_of_exprs es)) n _ _ (omega arith) all
   stmt_same (If e x y) f stack v at loops exits k has ok room le p n d calls back leaves next ld hc hb hl hn env env' w a =
       let oke = and_left (expr_fits v procs bytes e) (stmt_fits v procs bytes loops x && stmt_fits v procs bytes loops y) ok in
@@ -172,10 +172,10 @@ module _ (K : ℕ) (some : 1 ≤ K) (g : Places) (ps : List BlockProc) (procs by
       let my : List ℕ → Behaviour = λ env. meaning y g calls d back leaves next env w in
       let all : Same K (q + size_of_expr e) n (meaning (If e x y) g calls d back leaves next env w) (running K some g ps procs bytes f stack (operand e v (only (E.Branch (place e v) at second))) env' w) =
       operand_same K some g ps procs bytes e v v q n f stack (only (E.Branch (place e v) at second)) env env' w (λ val. at_zero val (my env) (mx env)) oke (omega arith) (omega arith) a
-        (λ val env1 c1 a1. chosen p2 q n val at second f stack cx.first cy.first (mx env) (my env) _ env1 w has.0 at_y.0 (omega arith) refl
-          (λ j. ap (λ i. at_block (slice_get f.blocks (branch_to i at second)) (exec ps g j) f env1 w stack) c1.has)
-          (dearer K some (p1 + size_of x) p2 n _ _ (omega arith) (sx env env1 w a1))
-          (dearer K some (p1 + size_of y) p2 n _ _ (omega arith) (sy env env1 w a1))) in
+      (λ val env1 c1 a1. chosen p2 q n val at second f stack cx.first cy.first (mx env) (my env) _ env1 w has.0 at_y.0 (omega arith) refl
+      (λ j. ap (λ i. at_block (slice_get f.blocks (branch_to i at second)) (exec ps g j) f env1 w stack) c1.has)
+      (dearer K some (p1 + size_of x) p2 n _ _ (omega arith) (sx env env1 w a1))
+      (dearer K some (p1 + size_of y) p2 n _ _ (omega arith) (sy env env1 w a1))) in
       dearer K some (q + size_of_expr e) (p + (2 + size_of_expr e + size_of x + size_of y)) n _ _ (omega arith) all
   stmt_same (Loop s) f stack v at loops exits k has ok room le p n d calls back leaves next ld hc hb hl hn env env' w a =
       let join = at + 1 + count s in
@@ -187,7 +187,7 @@ module _ (K : ℕ) (some : 1 ≤ K) (g : Places) (ps : List BlockProc) (procs by
       let inner : (m : ℕ) → m ≤ n → LeavesSame K some g ps procs bytes p1 m f stack v (join ∷ exits) (loops + 1) (inside next leaves) = inner_leaves p n v join loops f stack exits next leaves hn' hl in
       let turn : (m : ℕ) (again : Next) → m ≤ n → NextSame K some g ps procs bytes p1 m f stack v to_head again → NextSame K some g ps procs bytes (p1 + size_of s) m f stack v cs.first (meaning s g calls d back (inside next leaves) again) =
       λ m again lm ha. stmt_same s f stack v (at + 1) (loops + 1) (join ∷ exits) to_head (has_front f.blocks (at + 1) cs.others (k ∷ []) has.1) ok room (omega arith) p1 m d calls back (inside next leaves) again (omega arith)
-        (λ i p c args w stack back li hb. hc i p c args w stack back (omega arith) hb) (λ rs w. less K some p1 n m _ _ lm (dearer K some p p1 n _ _ (omega arith) (hb rs w))) (inner m lm) ha in
+      (λ i p c args w stack back li hb. hc i p c args w stack back (omega arith) hb) (λ rs w. less K some p1 n m _ _ lm (dearer K some p p1 n _ _ (omega arith) (hb rs w))) (inner m lm) ha in
       let body = meaning s g calls d back (inside next leaves) in
       let again = loop_same p1 (p1 + size_of s) n f stack v at cs.first body has.0 (omega arith) turn n d (omega arith) ld in
       let all = jump (p1 + size_of s) n f stack v at cs.first (body (turns d body)) has.0 (turn n (turns d body) (omega arith) again) in
@@ -198,7 +198,7 @@ module _ (K : ℕ) (some : 1 ≤ K) (g : Places) (ps : List BlockProc) (procs by
       let okes = and_right (nat_le (length es) 2) (exprs_fit v procs bytes es) ok in
       let all : Same K (p + size_of_exprs es) n (meaning (Return es) g calls d back leaves next env w) (running K some g ps procs bytes f stack (operands es v (only (E.Return (places_of es v)))) env' w) =
       operands_same K some g ps procs bytes es v v p n f stack (only (E.Return (places_of es v))) env env' w (λ vals. back vals w) okes (omega arith) room a
-        (λ vals env1 c1 a1. return_same p n f stack (places_of es v) vals env1 w back c1.has hb) in
+      (λ vals env1 c1 a1. return_same p n f stack (places_of es v) vals env1 w back c1.has hb) in
       dearer K some (p + size_of_exprs es) (p + (1 + size_of_exprs es)) n _ _ (omega arith) all
   stmt_same (Take x) f stack v at loops exits k has ok room le p n d calls back leaves next ld hc hb hl hn env env' w a =
       let b = first_byte w.unread in
@@ -209,15 +209,15 @@ module _ (K : ℕ) (some : 1 ≤ K) (g : Places) (ps : List BlockProc) (procs by
       let last = before (I.Give (place e v)) k in
       let all : Same K (p + 1 + size_of_expr e) n (meaning (Give e) g calls d back leaves next env w) (running K some g ps procs bytes f stack (operand e v last) env' w) =
       operand_same K some g ps procs bytes e v v (p + 1) n f stack last env env' w (λ val. on w (next env (gave w (val % 256)))) ok (omega arith) (omega arith) a
-        (λ val env1 c1 a1. tick K some (p + 1) p n (seen w Running) (next env (gave w (val % 256))) _ (running K some g ps procs bytes f stack k env1 (gave w (val % 256))) refl
-          (λ j. ap (λ i. exec ps g j (record { proc = f; rest = k; env = env1; world = gave w (i % 256); stack = stack })) c1.has) (omega arith)
-          (λ m lm. less K some p n m _ _ (omega arith) (hn env env1 (gave w (val % 256)) a1))) in
+      (λ val env1 c1 a1. tick K some (p + 1) p n (seen w Running) (next env (gave w (val % 256))) _ (running K some g ps procs bytes f stack k env1 (gave w (val % 256))) refl
+      (λ j. ap (λ i. exec ps g j (record { proc = f; rest = k; env = env1; world = gave w (i % 256); stack = stack })) c1.has) (omega arith)
+      (λ m lm. less K some p n m _ _ (omega arith) (hn env env1 (gave w (val % 256)) a1))) in
       dearer K some (p + 1 + size_of_expr e) (p + (1 + size_of_expr e)) n _ _ (omega arith) all
   stmt_same (Stop e) f stack v at loops exits k has ok room le p n d calls back leaves next ld hc hb hl hn env env' w a =
       let last = only (E.Stop (place e v)) in
       let all : Same K (p + size_of_expr e) n (meaning (Stop e) g calls d back leaves next env w) (running K some g ps procs bytes f stack (operand e v last) env' w) =
       operand_same K some g ps procs bytes e v v p n f stack last env env' w (λ val. over w (stop_code val)) ok (omega arith) (omega arith) a
-        (λ val env1 c1 a1. ends K some p n (seen w Running) (seen w (stop_code val)) _ refl (λ j. ap (λ i. seen w (stop_code i)) c1.has)) in
+      (λ val env1 c1 a1. ends K some p n (seen w Running) (seen w (stop_code val)) _ refl (λ j. ap (λ i. seen w (stop_code i)) c1.has)) in
       dearer K some (p + size_of_expr e) (p + (1 + size_of_expr e)) n _ _ (omega arith) all
   stmt_same (Limit l) f stack v at loops exits k has ok room le p n d calls back leaves next ld hc hb hl hn env env' w a =
       ends K some (p + 1) n (seen w Running) (seen w (Limited (limit_of l))) _ refl (λ j. refl)

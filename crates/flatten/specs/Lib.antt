@@ -1,3 +1,4 @@
 pub mod Blocks
 pub mod Code
 pub mod Sizes
+pub mod Named

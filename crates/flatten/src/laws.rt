@@ -1,4 +1,4 @@
-ghost use Rattle.std.specs.Prelude.{true, ℕ, List, ◌≡◌};
+ghost use Rattle.std.specs.Prelude.{true, ℕ, List, ◌≡◌, length};
 ghost use Rattle.behaviour.specs.Follows.{Follows};
 ghost use Rattle.flat_ir.specs.declared.program.FlatProgram.{FlatProgram};
 ghost use Rattle.flat_ir.specs.Checked.{is_ok};
@@ -7,6 +7,7 @@ ghost use Rattle.flat_ir.specs.Placement.{Placement};
 ghost use Rattle.flat_ir.specs.View.{procs_of};
 ghost use Rattle.flatten.specs.Blocks.{blocks};
 ghost use Rattle.flatten.specs.Code.{program_code};
+ghost use Rattle.flatten.specs.Named.{ProcsNamed};
 ghost use Rattle.flatten.specs.Sizes.{sizes_of};
 
 /// The blocks of a program that holds together follow the program, wherever it is placed, and whatever its limits and its input:
@@ -14,4 +15,10 @@ ghost use Rattle.flatten.specs.Sizes.{sizes_of};
 pub fn blocks_follow_the_program()
     ensures { (p : FlatProgram) → is_ok p ≡ true → (g : Placement) (input : List ℕ)
         → Follows (sizes_of (procs_of p.procs)) (blocks (program_code p) g input) (flat p g input) }
+{}
+
+/// Each value, block, procedure and byte of the image that the blocks name is there, and no procedure has more parameters than values.
+pub fn blocks_name_what_is_there()
+    ensures { (p : FlatProgram) → is_ok p ≡ true
+        → ProcsNamed (length p.procs) (length p.image) (program_code p).procs }
 {}
