@@ -3,3 +3,4 @@ pub mod Sim
 pub mod Statements
 pub mod Correct
 pub mod Named
+pub mod Forward

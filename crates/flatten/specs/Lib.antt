@@ -2,3 +2,4 @@ pub mod Blocks
 pub mod Code
 pub mod Sizes
 pub mod Named
+pub mod Forward

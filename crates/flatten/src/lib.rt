@@ -5,4 +5,4 @@ mod blocks;
 mod laws;
 
 pub use blocks::{Block, BlockEnd, BlockInsn, BlockProc, BlockProgram};
-pub use laws::{blocks_follow_the_program, blocks_name_what_is_there};
+pub use laws::{blocks_follow_the_program, blocks_name_what_is_there, only_loops_go_back};
