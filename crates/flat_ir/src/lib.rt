@@ -8,5 +8,5 @@ mod program;
 mod tests;
 
 pub use checks::flat_ok;
-pub use laws::depth_is_free;
+pub use laws::{depth_is_free, flat_is_a_run};
 pub use program::{Exceeded, Fix, FlatExpr, FlatProc, FlatProgram, FlatStmt, Operation, Target};
