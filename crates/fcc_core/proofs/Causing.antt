@@ -1,5 +1,5 @@
 -- Why the command `run` comes to its status.
-use Rattle.std.proofs.Common.{◌≡◌, ◌⊎◌, ℕ, List, Option, Some, None, Err, refl, sym, ap, ◌∙◌, subst, inl, inr}
+use Rattle.std.proofs.Common.{◌≡◌, ℕ, List, Option, Some, Err, subst, inl, inr}
 use Rattle.program_image.specs.declared.Image.{Image}
 use Rattle.rv_machine.specs.State.{State}
 use Rattle.rv_machine.specs.Loaded.{loaded}
@@ -10,13 +10,13 @@ use Rattle.image_run.proofs.Turns.{runs_to}
 use Rattle.command.specs.declared.words.RunWords.{RunWords}
 use Rattle.first_form.specs.declared.program.FirstProgram.{FirstProgram}
 use Rattle.first_code.specs.Compiled.{IsCompiled}
-use Rattle.fcc_core.specs.Outside.{LibraryAt, SinkAt, Outside, IsUntroubled, IsIdle}
+use Rattle.fcc_core.specs.Outside.{SinkAt, Outside, IsUntroubled}
 use Rattle.fcc_core.specs.Sources.{IsProgram}
 use Rattle.fcc_core.specs.Front.{IsFronted}
 use Rattle.fcc_core.specs.Fault.{fault_status, fault_line, SaidUnlessMemory}
 use Rattle.fcc_core.specs.Lines.{ended_status, ended_line, memory_line}
 use Rattle.fcc_core.specs.Said.{Said}
-use Rattle.fcc_core.specs.Answer.{IsUnrun, IsRun, Cause, NoMemory, NotGiven, NotAccepted, Ran, IsCaused}
+use Rattle.fcc_core.specs.Answer.{IsUnrun, Cause, NoMemory, NotGiven, NotAccepted, Ran, IsCaused}
 use Rattle.fcc_core.specs.declared.front.FrontFault.{FrontFault}
 use Rattle.fcc_core.specs.declared.front.FrontFault.TheVariants as fault
 

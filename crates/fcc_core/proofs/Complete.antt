@@ -1,7 +1,6 @@
 -- A program that ends within the step bound is told by its end.
-use Rattle.std.proofs.Common.{◌≡◌, ◌≢◌, ◌⊎◌, ◌≤◌, ◌+◌, ◌*◌, ℕ, ℤ, List, [], ◌∷◌, Option, Some, None, Ok, Err, IsSome, Bool, true, false, cond, nat_eq, refl, sym, ap, ◌∙◌, subst, inl, inr, arith}
-use Rattle.std.specs.Prelude.{codes}
-use Rattle.behaviour.specs.Behaviour.{Ending, Running, Stopped, Limited, Frames, Objects, Wrong, Seen}
+use Rattle.std.proofs.Common.{◌≡◌, ◌≢◌, ◌⊎◌, ◌≤◌, ◌+◌, ◌*◌, ℕ, List, [], ◌∷◌, Option, Some, None, Bool, true, false, cond, nat_eq, refl, sym, ap, ◌∙◌, subst, inl, inr, arith}
+use Rattle.behaviour.specs.Behaviour.{Ending, Running, Limited, Frames, Objects, Wrong}
 use Rattle.jf_outside.specs.Count.{Rose}
 use Rattle.program_image.specs.declared.Image.{Image}
 use Rattle.rv_machine.specs.declared.event.Event.{Event}
@@ -11,26 +10,24 @@ use Rattle.rv_machine.specs.declared.event.Mode.TheVariants as mode
 use Rattle.rv_machine.specs.Loaded.{loaded}
 use Rattle.rv_machine.specs.Exec.{Run, exec, start}
 use Rattle.rv_machine.proofs.Laws.{exec_ended}
-use Rattle.image_run.specs.Behaviour.{event_ending, mode_ending, seen, image_behaviour, limit_of}
-use Rattle.image_run.specs.Leaves.{FaultsAre, RunsTo, IsAtBound, told_of, ended_of}
+use Rattle.image_run.specs.Behaviour.{event_ending, mode_ending, seen}
+use Rattle.image_run.specs.Leaves.{IsAtBound, told_of, ended_of}
 use Rattle.image_run.specs.declared.run.Ended.{Ended}
 use Rattle.image_run.specs.declared.run.Ended.TheVariants as ended
-use Rattle.command.specs.declared.words.Command.{Command}
 use Rattle.command.specs.declared.words.Command.TheVariants as command
 use Rattle.command.specs.declared.words.RunWords.{RunWords}
-use Rattle.command.specs.Words.{Says, SaysNothing}
+use Rattle.command.specs.Words.{Says}
 use Rattle.command.proofs.Unique.{command_same}
 use Rattle.first_form.specs.declared.program.FirstProgram.{FirstProgram}
-use Rattle.first_form.specs.declared.pair.Reading.{Reading}
 use Rattle.first_form.specs.declared.pair.Reading.TheVariants as reading
 use Rattle.first_form.specs.Forms.{IsFortranText, IsCText}
 use Rattle.first_form.specs.Readings.{AreTexts}
 use Rattle.first_form.proofs.OneReading.{one_reading, one_fortran}
 use Rattle.first_code.specs.Compiled.{IsCompiled, AreStandard, pace}
 use Rattle.first_meaning.specs.Joint.{joint}
-use Rattle.fcc_core.specs.Outside.{LibraryAt, SinkAt, Outside}
-use Rattle.fcc_core.specs.Sources.{texts_of, misplaced, IsProgram, IsNotBuilt, Misplaced, InFortran, InC}
-use Rattle.fcc_core.specs.Lines.{stop_status, limit_status, ended_status, ended_line, memory_line}
+use Rattle.fcc_core.specs.Outside.{SinkAt, Outside}
+use Rattle.fcc_core.specs.Sources.{IsProgram, IsNotBuilt, Misplaced, InFortran, InC}
+use Rattle.fcc_core.specs.Lines.{ended_status}
 use Rattle.fcc_core.specs.Said.{Said}
 use Rattle.fcc_core.specs.Answer.{IsRun, Cause, NoMemory, NotGiven, NotAccepted, Ran, NoWords, NoRoom, OfRun, Answer, IsAnswered, ending_status, IsComplete}
 use Rattle.fcc_core.proofs.Answering.{standard_limits}

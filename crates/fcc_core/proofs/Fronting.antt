@@ -1,5 +1,5 @@
 -- From texts to the answer of the front half.
-use Rattle.std.proofs.Common.{◌≡◌, ◌⊎◌, ◌≤◌, ◌<◌, ℕ, List, [], ◌∷◌, length, get_or, arith, Option, Some, None, IsSome, Result, Ok, Err, refl, sym, ap, ◌∙◌, subst, inl, inr}
+use Rattle.std.proofs.Common.{◌≡◌, ◌≤◌, ◌<◌, ℕ, List, [], ◌∷◌, length, get_or, arith, Some, None, IsSome, Result, Ok, Err, refl, sym, ap, ◌∙◌, subst, inl, inr}
 use Rattle.first_form.specs.declared.program.FirstProgram.{FirstProgram}
 use Rattle.fcc_core.specs.Outside.{LibraryAt, IsUntroubled}
 use Rattle.fcc_core.specs.Sources.{texts_of, misplaced, Misplaced, InFortran, InC, IsNotBuilt}

@@ -14,7 +14,7 @@ use Rattle.command.specs.Words.{Says, SaysNothing}
 use Rattle.first_form.specs.declared.program.FirstProgram.{FirstProgram}
 use Rattle.first_code.specs.Compiled.{IsCompiled, AreStandard, pace}
 use Rattle.first_meaning.specs.Joint.{joint}
-use Rattle.fcc_core.specs.Outside.{LibraryAt, SinkAt, Outside, IsUntroubled, IsIdle}
+use Rattle.fcc_core.specs.Outside.{SinkAt, Outside, IsUntroubled, IsIdle}
 use Rattle.fcc_core.specs.Sources.{IsProgram, IsNotGiven}
 use Rattle.fcc_core.specs.Front.{IsRefused}
 use Rattle.fcc_core.specs.Lines.{stop_status, limit_status, ended_status, ended_line, no_file_line, refusal_line, memory_line}

@@ -1,5 +1,5 @@
 -- How a fault of the front half is told.
-use Rattle.std.specs.Prelude.{◌⊎◌, ℕ, List, Option}
+use Rattle.std.specs.Prelude.{◌⊎◌, ℕ, List}
 use Rattle.jf_base.specs.Tags.{IsTag}
 use Rattle.fcc_core.specs.Outside.{SinkAt}
 use Rattle.fcc_core.specs.Answer.{name_at}

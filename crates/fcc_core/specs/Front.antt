@@ -1,5 +1,5 @@
 -- What the front half answers.
-use Rattle.std.specs.Prelude.{◌≡◌, ◌⊎◌, ℕ, List, length, Option, Some, IsSome, Result, Ok, Err, Vec}
+use Rattle.std.specs.Prelude.{◌≡◌, ◌⊎◌, ℕ, List, length, Some, IsSome, Result, Ok, Err, Vec}
 use Rattle.jf_outside.specs.Count.{Rose}
 use Rattle.jf_outside.specs.Listing.{listed}
 use Rattle.std.specs.declared.alloc.Global.{Global}

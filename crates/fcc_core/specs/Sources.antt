@@ -1,5 +1,5 @@
 -- Which files make a program, and which is the first that doesn't.
-use Rattle.std.specs.Prelude.{◌≡◌, ℕ, ◌++◌, List, [], ◌∷◌, codes, nat_eq, Bool, length, take, if◌then◌else◌, IsSome, Option, Some, None, slice_get}
+use Rattle.std.specs.Prelude.{◌≡◌, ℕ, List, [], ◌∷◌, codes, nat_eq, Bool, length, take, if◌then◌else◌, IsSome, Option, Some, None, slice_get}
 use Rattle.std.specs.List.{ends_with}
 use Rattle.jf_outside.specs.Count.{Rose}
 use Rattle.jf_outside.specs.Listing.{listed}

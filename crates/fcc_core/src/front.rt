@@ -6,7 +6,7 @@ ghost use Rattle.fcc_core.specs.Sources.{is_fortran_name, is_c_name, misplaced};
 use first_form::{FirstProgram, Reading, read_pair};
 use jf_base::{List as Bytes, Place, Tag, Text};
 use jf_outside::{Library, LibraryFault};
-use std::alloc::{AllocError, Global};
+use std::alloc::Global;
 
 /// The rule that a source is in the form that is built so far.
 const NOT_BUILT: Tag = Tag(1001);
@@ -17,12 +17,6 @@ pub enum FrontFault {
     Memory,
     Library(Text),
     Source { place: Place, tag: Tag },
-}
-
-impl From<AllocError> for FrontFault {
-    fn from(_error: AllocError) -> FrontFault {
-        FrontFault::Memory
-    }
 }
 
 // A copy of the name, to tell it.

@@ -1,28 +1,26 @@
 -- The image of a program follows it.
-use Rattle.std.proofs.Common.{◌≡◌, ◌<◌, ◌≤◌, ℕ, suc, pos, ◌+◌, ◌-◌, ◌*◌, ◌/◌, ◌%◌, ◌^◌, min, List, [], ◌∷◌, ◌++◌, All, length, drop, replicate, Option, refl, sym, ap, ◌∙◌, subst, arith, lit<, inl, append_assoc, length-append}
+use Rattle.std.proofs.Common.{◌≡◌, ◌<◌, ◌≤◌, ℕ, ◌+◌, ◌-◌, ◌*◌, ◌%◌, ◌^◌, min, List, [], ◌∷◌, ◌++◌, All, length, drop, replicate, refl, sym, ap, ◌∙◌, subst, arith, lit<, inl, length-append}
 use Rattle.std.specs.List.{flat_map}
 use Rattle.std.proofs.lemmas.List.Elements.{All-head, All-tail, All-cons}
-use Rattle.std.proofs.lemmas.Grind.{flat_map-append}
-use Rattle.behaviour.specs.Behaviour.{Behaviour, Wrong}
 use Rattle.behaviour.specs.Follows.{Follows}
 use Rattle.jf_base.specs.declared.place.Limits.{Limits}
 use Rattle.program_image.specs.declared.Image.{Image}
 use Rattle.rv_isa.specs.declared.insn.Insn.{Insn}
-use Rattle.rv_isa.specs.declared.insn.Insn.TheVariants.{Lui, Addi, Addiw, Jalr, Ecall}
+use Rattle.rv_isa.specs.declared.insn.Insn.TheVariants.{Lui, Addi, Jalr, Ecall}
 use Rattle.rv_isa.specs.Encode.{encode_of, IsEncodable}
 use Rattle.rv_machine.specs.Loaded.{loaded, memory_size, objects_at, heap_at, frames_at}
-use Rattle.rv_machine.specs.Exec.{Run, exec, start}
-use Rattle.image_run.specs.Behaviour.{image_behaviour, seen}
+use Rattle.rv_machine.specs.Exec.{start}
+use Rattle.image_run.specs.Behaviour.{image_behaviour}
 use Rattle.first_form.specs.declared.program.FirstProgram.{FirstProgram}
 use Rattle.first_form.specs.declared.program.PutcharArgument.{PutcharArgument}
 use Rattle.first_form.specs.declared.program.PutcharArgument.TheVariants.{Parameter, Number}
 use Rattle.first_form.specs.Words.{IsInt}
 use Rattle.first_form.specs.Forms.{IsArgument}
 use Rattle.first_meaning.specs.Joint.{joint}
-use Rattle.first_meaning.specs.Units.{seen_of_units, units_of, seen_from}
+use Rattle.first_meaning.specs.Units.{seen_of_units, units_of}
 use Rattle.first_meaning.proofs.Course.{units_seen}
 use Rattle.first_meaning.proofs.Facts.{fits}
-use Rattle.first_code.specs.Code.{x0, ra, t0, s1, a0, a7, load_number, put_code, function_code, call_code, main_code, code_of, bytes_of}
+use Rattle.first_code.specs.Code.{x0, ra, t0, s1, a0, a7, put_code, function_code, call_code, main_code, code_of, bytes_of}
 use Rattle.first_code.specs.Compiled.{AreStandard, pace, IsCompiled}
 use Rattle.first_code.proofs.Units.{Does, forth, back}
 use Rattle.first_code.proofs.Words.{HasWord, AllFit, fit_append, HasCode, has_front, has_back, code_here, length-bytes_of}

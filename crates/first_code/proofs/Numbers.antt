@@ -1,10 +1,9 @@
 -- A number by LUI and ADDIW.
-use Rattle.std.proofs.Common.{◌≡◌, ◌<◌, ◌≤◌, ℕ, ◌+◌, ◌-◌, ◌*◌, ◌/◌, ◌%◌, ◌^◌, Bool, true, false, cond, nat_lt, refl, sym, ap, ◌∙◌, subst, arith, w32, w64}
+use Rattle.std.proofs.Common.{◌≡◌, ◌<◌, ◌≤◌, ℕ, ◌+◌, ◌-◌, ◌%◌, ◌^◌, Bool, true, false, cond, nat_lt, refl, ap, ◌∙◌, arith, w32}
 use Rattle.std.proofs.lemmas.Bool.{ltb-true, ltb-false, lt-ltb}
-use Rattle.std.specs.Int.{cast_signed, cast_unsigned}
 use Rattle.rv_isa.specs.declared.insn.Insn.TheVariants.{Lui, Addiw}
-use Rattle.rv_isa.specs.Encode.{IsEncodable, encode_of, IsSigned}
-use Rattle.rv_machine.specs.Alu.{word_sum, extended, extended_word, low_word}
+use Rattle.rv_isa.specs.Encode.{encode_of, IsSigned}
+use Rattle.rv_machine.specs.Alu.{word_sum, extended}
 use Rattle.first_form.specs.Words.{IsInt}
 use Rattle.first_code.specs.Code.{nearest, upper, lower}
 use Rattle.first_code.proofs.Words.{HasWord}

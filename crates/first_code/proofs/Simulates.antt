@@ -1,14 +1,13 @@
 -- The code of a program does its units.
-use Rattle.std.proofs.Common.{◌≡◌, ◌<◌, ◌≤◌, ℕ, suc, pos, ◌+◌, ◌-◌, ◌*◌, ◌/◌, ◌%◌, ◌^◌, List, [], ◌∷◌, ◌++◌, All, length, Option, Some, None, ◌⊎◌, refl, sym, ap, ◌∙◌, subst, arith, lit<, append_assoc, length-append}
+use Rattle.std.proofs.Common.{◌≡◌, ◌<◌, ℕ, pos, ◌+◌, ◌*◌, ◌/◌, ◌%◌, ◌^◌, List, [], ◌∷◌, ◌++◌, All, length, Option, None, refl, sym, subst, arith, lit<, append_assoc}
 use Rattle.std.specs.List.{flat_map}
 use Rattle.std.proofs.lemmas.List.Elements.{All-head, All-tail}
-use Rattle.behaviour.specs.Behaviour.{Seen}
 use Rattle.rv_isa.specs.declared.insn.Insn.{Insn}
 use Rattle.rv_isa.specs.declared.insn.Insn.TheVariants.{Lui, Addi, Addiw, Jalr, Ecall}
 use Rattle.rv_isa.specs.Encode.{encode_of, IsEncodable}
 use Rattle.rv_machine.specs.declared.event.Event.TheVariants as event
 use Rattle.rv_machine.specs.declared.event.Mode.TheVariants as mode
-use Rattle.rv_machine.specs.State.{State, register, set_register, next_pc}
+use Rattle.rv_machine.specs.State.{register, set_register}
 use Rattle.rv_machine.specs.Alu.{sum_of, word_sum}
 use Rattle.rv_machine.specs.Exec.{Run, turn}
 use Rattle.rv_machine.proofs.Laws.{IsWord, IsAtWord}
@@ -19,9 +18,9 @@ use Rattle.first_form.specs.declared.program.PutcharArgument.TheVariants.{Parame
 use Rattle.first_form.specs.Words.{IsInt}
 use Rattle.first_form.specs.Forms.{IsArgument}
 use Rattle.first_meaning.specs.Joint.{byte_of}
-use Rattle.first_meaning.specs.Units.{after_unit, put_units, call_units}
-use Rattle.first_code.specs.Code.{x0, ra, t0, s1, a0, a7, upper, lower, load_number, put_code, function_code, call_code, main_code}
-use Rattle.first_code.proofs.Units.{Covers, Does, seen_running, seen_stopped, none_covers, last_covers, more_covers}
+use Rattle.first_meaning.specs.Units.{put_units, call_units}
+use Rattle.first_code.specs.Code.{x0, ra, t0, s1, a0, a7, upper, lower, put_code, function_code, call_code, main_code}
+use Rattle.first_code.proofs.Units.{Does, seen_running, seen_stopped, none_covers, last_covers, more_covers}
 use Rattle.first_code.proofs.Words.{HasCode, has_front, has_back}
 use Rattle.first_code.proofs.Numbers.{loads, lui_has_word, addiw_has_word}
 

@@ -1,5 +1,5 @@
 -- A run of the machine that does one unit of a meaning after another.
-use Rattle.std.proofs.Common.{◌≡◌, ◌<◌, ◌≤◌, ℕ, pos, zero, suc, ◌+◌, ◌-◌, ◌*◌, List, [], ◌∷◌, Option, ◌⊎◌, refl, sym, ap, ◌∙◌, subst, inl, inr, arith}
+use Rattle.std.proofs.Common.{◌≡◌, ◌≤◌, ℕ, pos, zero, suc, ◌+◌, ◌-◌, ◌*◌, List, [], ◌∷◌, Option, ◌⊎◌, refl, sym, ap, ◌∙◌, subst, inl, inr, arith}
 use Rattle.std.proofs.lemmas.Bool.{cases_lt}
 use Rattle.behaviour.specs.Behaviour.{Seen, Running, Stopped}
 use Rattle.rv_machine.specs.declared.event.Event.TheVariants as event

@@ -1,5 +1,5 @@
 -- An image that follows a program of the first form.
-use Rattle.std.specs.Prelude.{◌≡◌, ◌≤◌, ◌<◌, ℕ, ◌+◌, ◌*◌, ◌^◌, List, All, length}
+use Rattle.std.specs.Prelude.{◌≡◌, ◌≤◌, ℕ, ◌+◌, ◌*◌, List, length}
 use Rattle.behaviour.specs.Follows.{Follows}
 use Rattle.jf_base.specs.declared.place.Limits.{Limits}
 use Rattle.jf_base.specs.Limits.{AreLimits}

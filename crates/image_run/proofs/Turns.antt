@@ -1,16 +1,15 @@
 -- One instruction over a source and a sink.
-use Rattle.std.proofs.Common.{◌≡◌, ◌≤◌, ◌<◌, ℕ, suc, ◌+◌, add-one, List, [], ◌∷◌, ◌++◌, take, Option, Some, None, refl, sym, ap, ◌∙◌, subst, arith, rules}
+use Rattle.std.proofs.Common.{◌≡◌, ◌<◌, ℕ, suc, add-one, List, [], ◌∷◌, ◌++◌, take, Option, Some, None, refl, sym, ap, ◌∙◌, subst, arith}
 use Rattle.jf_outside.specs.Contents.{grown}
 use Rattle.jf_outside.proofs.Held.{grown_grown, grown_none}
 use Rattle.rv_machine.specs.State.{State}
 use Rattle.rv_machine.specs.Step.{one, mode_after}
-use Rattle.rv_machine.specs.Exec.{Run, turn, exec, start, after, given}
-use Rattle.rv_machine.proofs.Laws.{turn_is, mode_is, ready_again, exec_ended}
-use Rattle.rv_machine.specs.declared.event.Mode.{Mode}
+use Rattle.rv_machine.specs.Exec.{Run, turn, exec, start, after}
+use Rattle.rv_machine.proofs.Laws.{turn_is, mode_is, exec_ended}
 use Rattle.rv_machine.specs.declared.event.Mode.TheVariants as mode
 use Rattle.rv_machine.specs.declared.event.Event.{Event}
 use Rattle.rv_machine.specs.declared.event.Event.TheVariants as event
-use Rattle.image_run.specs.Leaves.{IsAt, IsGiven, TakeLeaves, GiveLeaves, TurnLeaves, TurnEndsRun, Reaches, Leaves, IsAtBound, RunsTo, told_of, ended_of}
+use Rattle.image_run.specs.Leaves.{IsAt, TakeLeaves, GiveLeaves, TurnLeaves, TurnEndsRun, Reaches, Leaves, IsAtBound, RunsTo, told_of, ended_of}
 use Rattle.image_run.specs.declared.run.Ended.{Ended}
 use Rattle.image_run.specs.declared.run.Ended.TheVariants as over
 use Rattle.image_run.specs.declared.run.Turned.{Turned}

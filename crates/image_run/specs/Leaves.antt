@@ -1,5 +1,5 @@
 -- What a run over a source and a sink gives.
-use Rattle.std.specs.Prelude.{◌≡◌, ◌≤◌, ◌<◌, ℕ, ◌+◌, List, [], ◌∷◌, ◌++◌, take, Option, Some, None}
+use Rattle.std.specs.Prelude.{◌≡◌, ◌<◌, ℕ, ◌+◌, List, [], ◌∷◌, ◌++◌, take, Option, Some}
 use Rattle.jf_outside.specs.Contents.{grown}
 use Rattle.jf_outside.specs.Count.{Rose}
 use Rattle.rv_machine.specs.State.{State}

@@ -1,4 +1,4 @@
-use Rattle.std.proofs.Common.{rules, ◌≡◌, ◌≤◌, ◌<◌, length, ℕ, List, [], ◌∷◌, Some, None, Err, subst, sym, ap, ◌∙◌}
+use Rattle.std.proofs.Common.{rules, ◌≡◌, [], ◌∷◌, Some, Err, subst, sym, ap, ◌∙◌}
 use Rattle.fcc_core.specs.declared.front.FrontFault.{FrontFault}
 use Rattle.fcc_core.specs.Front.{IsFronted}
 use Rattle.fcc_core.proofs.Fronting.{misplaced_refused, fronted, two_items}

@@ -1,4 +1,4 @@
-use Rattle.std.proofs.Common.{◌≡◌, ℕ, List, Option, Some, length, take}
+use Rattle.std.proofs.Common.{◌≡◌, ℕ, List, Some, length, take}
 use Rattle.fcc_core.specs.Outside.{IsUntroubled}
 use Rattle.fcc_core.specs.Sources.{texts_of}
 use Rattle.fcc_core.proofs.front.read_files.Given as goal

@@ -1,4 +1,3 @@
-use Rattle.std.proofs.Common.{rules, ◌≡◌}
 use Rattle.fcc_core.proofs.say.say_ended.Goals as goal
 
 pub returns-in-Steps : goal.returns-in-Steps

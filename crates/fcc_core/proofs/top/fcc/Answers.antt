@@ -1,8 +1,8 @@
-use Rattle.std.proofs.Common.{◌≡◌, Option, refl, subst}
+use Rattle.std.proofs.Common.{Option, refl, subst}
 use Rattle.std.specs.Option.{MatchOption}
 use Rattle.command.specs.declared.words.Command.{Command}
 use Rattle.command.specs.Words.{texts, Says, SaysNothing}
-use Rattle.fcc_core.proofs.Answering.{no_words, no_room, of_command, standard_limits}
+use Rattle.fcc_core.proofs.Answering.{no_words, no_room, of_command}
 use Rattle.fcc_core.proofs.Complete.{complete}
 use Rattle.fcc_core.proofs.top.fcc.Goals as goal
 

@@ -1,4 +1,4 @@
-use Rattle.std.proofs.Common.{◌≡◌, refl}
+use Rattle.std.proofs.Common.{refl}
 use Rattle.fcc_core.proofs.Causing.{by_memory, by_fault_of, by_run}
 use Rattle.fcc_core.proofs.top.run_files.Goals as goal
 

@@ -1,6 +1,6 @@
-use Rattle.std.proofs.Common.{rules, ◌≡◌, ℕ, ◌++◌, ◌*◌, length, All, subst, sym, ap, ◌∙◌}
+use Rattle.std.proofs.Common.{rules, ◌≡◌, All, subst, sym, ap, ◌∙◌}
 use Rattle.rv_isa.specs.Encode.{IsEncodable}
-use Rattle.first_code.specs.Code.{code_of, bytes_of, function_code}
+use Rattle.first_code.specs.Code.{code_of, bytes_of}
 use Rattle.first_code.proofs.Images.{code_fits, all_encodable, compiled}
 use Rattle.first_code.proofs.image.compile.Goals as goal
 

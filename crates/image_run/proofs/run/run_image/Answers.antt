@@ -1,4 +1,4 @@
-use Rattle.std.proofs.Common.{◌≡◌, ◌∙◌, ℕ, Some, refl, arith, suc, ◌+◌, add-one}
+use Rattle.std.proofs.Common.{◌∙◌, refl, add-one}
 use Rattle.image_run.proofs.Turns.{over_gives}
 use Rattle.image_run.proofs.run.run_image.Goals as goal
 

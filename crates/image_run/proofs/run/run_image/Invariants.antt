@@ -1,4 +1,4 @@
-use Rattle.std.proofs.Common.{◌≡◌, ℕ, List, Option, Some}
+use Rattle.std.proofs.Common.{◌≡◌, ℕ, List, Some}
 use Rattle.rv_machine.specs.declared.event.Mode.TheVariants.{Ready}
 use Rattle.rv_machine.specs.Exec.{exec, start}
 use Rattle.image_run.specs.Leaves.{IsAt}

@@ -1,4 +1,4 @@
-use Rattle.std.proofs.Common.{◌≡◌, ap, ◌∙◌}
+use Rattle.std.proofs.Common.{ap, ◌∙◌}
 use Rattle.rv_machine.proofs.Laws.{ready_again}
 use Rattle.image_run.proofs.run.take.Goals as goal
 

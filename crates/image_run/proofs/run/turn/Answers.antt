@@ -1,4 +1,4 @@
-use Rattle.std.proofs.Common.{◌≡◌, None, refl, rules, w32, SFits}
+use Rattle.std.proofs.Common.{None, refl, rules, w32, SFits}
 use Rattle.std.proofs.lemmas.Int.{to_z-of_z}
 use Rattle.rv_machine.proofs.Laws.{mode_is}
 use Rattle.image_run.proofs.Turns.{stays, gives, takes}

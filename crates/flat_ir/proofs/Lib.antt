@@ -1,0 +1,4 @@
+pub mod Rows
+pub mod Depth
+pub mod Comes
+pub mod Lawful

@@ -1,0 +1,9 @@
+pub mod Tree
+pub mod View
+pub mod Bytes
+pub mod Operations
+pub mod Placement
+pub mod Flat
+pub mod Checked
+pub mod Exits
+pub mod Comes

@@ -1,0 +1,5 @@
+pub mod Blocks
+pub mod Code
+pub mod Sizes
+pub mod Named
+pub mod Forward

@@ -1,0 +1,17 @@
+pub mod Nth
+pub mod Chains
+pub mod Meanings
+pub mod Grounds
+pub mod Steps
+pub mod Listed
+pub mod Points
+pub mod Updates
+pub mod Keeps
+pub mod Writes
+pub mod Reading
+pub mod Making
+pub mod Ending
+pub mod Stacks
+pub mod Opening
+pub mod Closing
+pub mod Lawful

@@ -1,0 +1,14 @@
+use Rattle.std.proofs.Common.{sym, ◌∙◌, ap, arith}
+use Rattle.storage_model.specs.Storage.{is_memory, has_cells, at}
+use Rattle.storage_model.specs.Model.{model}
+use Rattle.storage_model.proofs.Nth.{nth_object_at, nth_object_past}
+use Rattle.storage_model.proofs.storage.Storage.is_memory.Goals as goal
+
+pub returns-then-o-len : goal.returns-then-o-len
+returns-then-o-len c = sym (ap (λ v. is_memory (model c.args.self.now) (at v 0)) c.in-Home.is
+    ∙ ap (λ y. has_cells y.kind) (nth_object_at c.args.self.now.objects.items c.in-Home.o c.index.result.now (omega arith) c.index.ensures)
+    ∙ sym c.has_cells.ensures)
+
+pub returns-else-o-len : goal.returns-else-o-len
+returns-else-o-len c = sym (ap (λ v. is_memory (model c.args.self.now) (at v 0)) c.in-Home.is
+    ∙ ap (λ y. has_cells y.kind) (nth_object_past c.args.self.now.objects.items c.in-Home.o (omega arith)))

@@ -1,0 +1,14 @@
+pub mod Tags
+pub mod Storage
+pub mod Chain
+pub mod Access
+pub mod Ends
+pub mod Loans
+pub mod Pointers
+pub mod Laws
+pub mod Held
+pub mod Model
+pub mod Answers
+pub mod Reach
+pub mod Marks
+pub mod Listings

@@ -1,0 +1,17 @@
+pub mod Alone
+pub mod Root
+pub mod Copy
+pub mod Closing
+pub mod Close
+pub mod Writing
+pub mod Ending
+pub mod Opening
+pub mod Open
+pub mod Making
+pub mod Describing
+pub mod Run
+pub mod Elsewhere
+pub mod Checks
+pub mod Many
+pub mod Made
+pub mod Pointers

@@ -1,0 +1,4 @@
+pub mod Relation
+pub mod Flat
+pub mod Run
+pub mod Scenes
