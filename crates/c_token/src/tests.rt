@@ -25,14 +25,14 @@ fn differ(alloc: Global) -> Result<bool, AllocError> {
 
 #[test]
 fn tokens_are_compared_by_their_spelling(rt: HostRuntime) {
-    assert!(matches!(differ(rt.alloc()), Ok(true)));
+    assert!(rt; matches!(differ(rt.alloc()), Ok(true)));
 }
 
 #[test]
-fn digraphs_mean_what_they_stand_for() {
-    assert!(Mark::OpenBracketDigraph.meaning() == Mark::OpenBracket);
-    assert!(Mark::CloseBracketDigraph.meaning() == Mark::CloseBracket);
-    assert!(Mark::OpenBraceDigraph.meaning() == Mark::OpenBrace);
-    assert!(Mark::CloseBraceDigraph.meaning() == Mark::CloseBrace);
-    assert!(Mark::Less.meaning() == Mark::Less);
+fn digraphs_mean_what_they_stand_for(rt: HostRuntime) {
+    assert!(rt; Mark::OpenBracketDigraph.meaning() == Mark::OpenBracket);
+    assert!(rt; Mark::CloseBracketDigraph.meaning() == Mark::CloseBracket);
+    assert!(rt; Mark::OpenBraceDigraph.meaning() == Mark::OpenBrace);
+    assert!(rt; Mark::CloseBraceDigraph.meaning() == Mark::CloseBrace);
+    assert!(rt; Mark::Less.meaning() == Mark::Less);
 }

@@ -5,12 +5,12 @@ use jf_base::{List, Place};
 use std::alloc::{AllocError, Global};
 
 #[test]
-fn each_operator_has_its_production() {
-    assert!(BinaryOperator::Remainder.height() == Height::Multiplicative);
-    assert!(BinaryOperator::ShiftRight.height() == Height::Shift);
-    assert!(BinaryOperator::GreaterEqual.height() == Height::Relational);
-    assert!(BinaryOperator::NotEqual.height() == Height::Equality);
-    assert!(BinaryOperator::Or.height() == Height::Or);
+fn each_operator_has_its_production(rt: HostRuntime) {
+    assert!(rt; BinaryOperator::Remainder.height() == Height::Multiplicative);
+    assert!(rt; BinaryOperator::ShiftRight.height() == Height::Shift);
+    assert!(rt; BinaryOperator::GreaterEqual.height() == Height::Relational);
+    assert!(rt; BinaryOperator::NotEqual.height() == Height::Equality);
+    assert!(rt; BinaryOperator::Or.height() == Height::Or);
 }
 
 const PLACE: Place = Place {
@@ -32,10 +32,10 @@ fn unit(alloc: Global) -> Result<CUnit, AllocError> {
 #[test]
 fn a_unit_tells_the_places_of_its_tokens(rt: HostRuntime) {
     match unit(rt.alloc()) {
-        Err(_) => assert!(false),
+        Err(_) => assert!(rt; false),
         Ok(unit) => {
-            assert!(unit.place(0) == Some(PLACE));
-            assert!(unit.place(1) == None);
+            assert!(rt; unit.place(0) == Some(PLACE));
+            assert!(rt; unit.place(1) == None);
         }
     }
 }
