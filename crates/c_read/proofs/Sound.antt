@@ -3,17 +3,14 @@ use Rattle.std.proofs.Common.{◌≡◌, ℕ, zero, suc, ◌≤◌, Bool, true, 
 use Rattle.std.specs.Prelude.{IfOk}
 use Rattle.std.proofs.lemmas.Bool.{eqb-true}
 use Rattle.c_tree.specs.declared.operator.SpecifierWord.TheVariants as word
-use Rattle.c_tree.specs.declared.operator.PointerMark.{PointerMark}
-use Rattle.c_tree.specs.declared.operator.PointerMark.TheVariants as mark
 use Rattle.c_tree.specs.declared.operator.PrefixOperator.{PrefixOperator}
-use Rattle.c_tree.specs.declared.operator.PrefixOperator.TheVariants as pre
 use Rattle.c_read.specs.declared.token.Allowed.{Allowed}
 use Rattle.c_read.specs.declared.token.Allowed.TheVariants.{Named, Abstract, Either}
 use Rattle.c_read.specs.declared.token.Token.{Token}
 use Rattle.c_read.specs.declared.token.Token.TheVariants as token
 use Rattle.c_read.specs.declared.fault.Fault.{Fault}
-use Rattle.c_read.specs.Grammar.{Scope, is_type, starts_type, Expr, Name, Number, Byte, Texts, Paren, Postfix, Prefix, SizeOfExpr, SizeOf, Cast, Chain, Posts, no_posts, post, Post, Index, Call, CallNothing, Member, Arrow, Increment, Decrement, Joint, Infix, Choose, Assign, Comma, Links, no_links, link, Sort, OfInfix, OfChoice, OfAssign, OfComma, sort_height, sort_of, begins_post, is_unary, is_primary, takes_operand, after_joint, after_post, sign_of_set, sign_of_prefix, spell_joint, spell_posts, spell_post, spell_texts, Joins, ArePosts, FitsJoint, FitsPosts, FitsPost, Typed, typed, Specs, no_specs, spec, Spec, Keyword, TypeName, Enumerators, Struct, Members, no_members, member, Decl, decl, Core, Absent, Id, Group, Suffixes, no_suffixes, suffix, Suffix, OpenArray, Array, Function, Params, NoParams, OnlyVoid, Some_params, More, no_more, param, height_of, sign_of, after, after_typed, after_specs, after_spec, after_core, after_suffix, after_param, is_base, or, spell, spell_links, spell_typed, spell_specs, spell_spec, spell_members, spell_decl, spell_core, spell_suffixes, spell_suffix, spell_params, spell_more, spell_marks, spell_names, ArePointers, Grouped, IsAParam, Fits, FitsLinks, FitsTyped, FitsSpecs, FitsSpec, FitsMembers, FitsDecl, FitsCore, FitsSuffixes, FitsSuffix, FitsParams, FitsMore, Within, WithinDecl, WithinTyped}
-use Rattle.c_read.specs.Reading.{◌>>=◌, Read, Reader, Inner, broken, choose, closed_at, squared_at, braced_at, semi_at, comma_at, ends_braces, ends_list, void_at, run_at, marks_at, names_at, colon_at, may_join, picked, link_at, prefix_of, texts_at, paren_at, primary_at, index_at, arguments_at, call_at, post_at, posts_at, with_posts, postfix_at, prefix_at, conversion_at, size_of_at, type_size_at, size_at, cast_at, choice_at, joint_at, links_at, chain, level_at, begins_spec, members_at, struct_at, enum_at, enumerators_at, spec_at, specs_end, specs_at, opens_list, takes_name, needs_name, group_at, core_at, more_at, list_at, params_at, bound_at, array_at, function_at, suffixes_at, decl_at, typed_at, inner}
+use Rattle.c_read.specs.Grammar.{Scope, is_type, starts_type, Expr, Name, Number, Byte, Texts, Paren, Postfix, Prefix, SizeOfExpr, SizeOf, Cast, Chain, Posts, no_posts, post, Post, Index, Call, CallNothing, Member, Arrow, Increment, Decrement, Joint, Infix, Choose, Assign, Comma, Links, no_links, link, Sort, OfInfix, OfChoice, OfAssign, OfComma, sort_height, sort_of, begins_post, is_unary, is_primary, takes_operand, after_joint, after_post, sign_of_set, sign_of_prefix, spell_joint, spell_posts, spell_post, spell_texts, Joins, FitsJoint, FitsPosts, FitsPost, Typed, typed, Specs, no_specs, spec, Spec, Keyword, Members, member, Decl, decl, Core, Absent, Id, Group, Suffixes, no_suffixes, Suffix, OpenArray, Array, Function, Params, NoParams, OnlyVoid, Some_params, More, no_more, param, height_of, sign_of, after, after_typed, after_specs, after_spec, after_core, after_suffix, after_param, is_base, or, spell, spell_links, spell_typed, spell_specs, spell_spec, spell_members, spell_decl, spell_core, spell_suffixes, spell_suffix, spell_params, spell_more, spell_marks, spell_names, ArePointers, Grouped, IsAParam, Fits, FitsLinks, FitsTyped, FitsSpecs, FitsSpec, FitsMembers, FitsDecl, FitsCore, FitsSuffixes, FitsSuffix, FitsParams, FitsMore, Within, WithinDecl, WithinTyped}
+use Rattle.c_read.specs.Reading.{◌>>=◌, Reader, Inner, choose, closed_at, squared_at, braced_at, semi_at, comma_at, ends_braces, ends_list, void_at, run_at, marks_at, names_at, colon_at, may_join, picked, link_at, prefix_of, texts_at, paren_at, primary_at, index_at, arguments_at, call_at, post_at, posts_at, with_posts, postfix_at, prefix_at, conversion_at, size_of_at, type_size_at, size_at, cast_at, choice_at, joint_at, links_at, chain, level_at, begins_spec, members_at, struct_at, enum_at, enumerators_at, spec_at, specs_at, opens_list, takes_name, needs_name, group_at, core_at, more_at, list_at, params_at, bound_at, array_at, function_at, suffixes_at, decl_at, typed_at, inner}
 
 -- ---- steps
 

@@ -1,5 +1,5 @@
 -- The grammar: what a tree is, its spelling, what it declares, and which trees fit.
-use Rattle.std.specs.Prelude.{◌≡◌, ℕ, zero, suc, ◌+◌, ◌<◌, ◌≤◌, List, [], ◌∷◌, ◌++◌, Option, Some, None, Bool, true, false, ◌==◌, if◌then◌else◌}
+use Rattle.std.specs.Prelude.{◌≡◌, ℕ, zero, suc, ◌<◌, List, [], ◌∷◌, ◌++◌, Option, Some, None, Bool, true, false, ◌==◌, if◌then◌else◌}
 use Rattle.c_tree.specs.declared.operator.SpecifierWord.{SpecifierWord}
 use Rattle.c_tree.specs.declared.operator.SpecifierWord.TheVariants as word
 use Rattle.c_tree.specs.declared.operator.PointerMark.{PointerMark}

@@ -14,3 +14,8 @@ pub fn what_is_read_fits()
 pub fn what_fits_is_read()
     ensures { (n h : ℕ) (s : Scope) (e : Expr) (rest : List Token) → Fits n h s e → Stops h rest → level_at (inner n) h s (spell e rest) ≡ Ok (e, rest) }
 {}
+
+/// The tokens of an expression are those of no other, whatever follows them that goes on with neither.
+pub fn one_tree()
+    ensures { (n h : ℕ) (s : Scope) (e f : Expr) (rest others : List Token) → Fits n h s e → Fits n h s f → Stops h rest → Stops h others → spell e rest ≡ spell f others → (e ≡ f) × (rest ≡ others) }
+{}
