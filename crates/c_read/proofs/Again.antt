@@ -15,8 +15,8 @@ use Rattle.c_read.specs.declared.token.Allowed.{Allowed}
 use Rattle.c_read.specs.declared.token.Allowed.TheVariants.{Named, Abstract, Either}
 use Rattle.c_read.specs.declared.token.Token.{Token}
 use Rattle.c_read.specs.declared.token.Token.TheVariants as token
-use Rattle.c_read.specs.Grammar.{Scope, is_type, starts_type, Expr, Name, Number, Byte, Texts, Paren, Postfix, Prefix, SizeOfExpr, SizeOf, Cast, Chain, Posts, no_posts, post, Post, Index, Call, CallNothing, Member, Arrow, Increment, Decrement, Joint, Infix, Choose, Assign, Comma, Links, no_links, link, Sort, OfInfix, OfChoice, OfAssign, OfComma, sort_height, sort_of, begins_post, is_unary, is_primary, takes_operand, after_joint, after_post, sign_of_set, sign_of_prefix, spell_joint, spell_posts, spell_post, spell_texts, Joins, ArePosts, FitsJoint, FitsPosts, FitsPost, NoText, Quiet, NoJoint, Typed, typed, Specs, no_specs, spec, Spec, Keyword, TypeName, Enumerators, Struct, Members, no_members, member, Decl, decl, Core, Absent, Id, Group, Suffixes, no_suffixes, suffix, Suffix, OpenArray, Array, Function, Params, NoParams, OnlyVoid, Some_params, More, no_more, param, height_of, sign_of, after, after_typed, after_specs, after_spec, after_core, after_suffix, after_param, is_base, or, spell, spell_links, spell_typed, spell_specs, spell_spec, spell_members, spell_decl, spell_core, spell_suffixes, spell_suffix, spell_params, spell_more, spell_marks, spell_names, ArePointers, IsLinked, Grouped, IsAParam, Fits, FitsLinks, FitsTyped, FitsSpecs, FitsSpec, FitsMembers, FitsDecl, FitsCore, FitsSuffixes, FitsParams, FitsMore, Stops, Ends}
-use Rattle.c_read.specs.Reading.{Reader, Inner, closed_at, squared_at, braced_at, semi_at, comma_at, ends_braces, ends_list, void_at, run_at, marks_at, names_at, colon_at, may_join, picked, link_at, prefix_of, texts_at, paren_at, primary_at, index_at, arguments_at, call_at, post_at, posts_at, with_posts, postfix_at, prefix_at, conversion_at, size_of_at, type_size_at, size_at, cast_at, choice_at, joint_at, links_at, chain, level_at, begins_spec, members_at, struct_at, enum_at, enumerators_at, spec_at, specs_at, opens_list, takes_name, needs_name, group_at, core_at, more_at, list_at, params_at, bound_at, array_at, function_at, suffixes_at, decl_at, typed_at, inner}
+use Rattle.c_read.specs.Grammar.{Scope, is_type, starts_type, Expr, Name, Number, Byte, Texts, Paren, Postfix, Prefix, SizeOfExpr, SizeOf, Cast, Chain, Posts, no_posts, post, Post, Index, Call, CallNothing, Member, Arrow, Increment, Decrement, Joint, Infix, Choose, Assign, Comma, Links, no_links, link, Sort, OfInfix, OfChoice, OfAssign, OfComma, sort_height, sort_of, begins_post, is_unary, is_primary, takes_operand, after_joint, after_post, sign_of_set, sign_of_prefix, spell_joint, spell_posts, spell_post, spell_texts, Joins, ArePosts, FitsJoint, FitsPosts, FitsPost, NoText, Quiet, NoJoint, Typed, typed, Specs, no_specs, spec, Spec, Keyword, TypeName, Struct, Members, no_members, member, Decl, decl, Core, Absent, Id, Group, Suffixes, no_suffixes, suffix, Suffix, OpenArray, Array, Function, Params, NoParams, OnlyVoid, Some_params, More, no_more, param, height_of, sign_of, after, after_typed, after_specs, after_spec, after_core, after_suffix, after_param, is_base, or, spell, spell_links, spell_typed, spell_specs, spell_spec, spell_members, spell_decl, spell_core, spell_suffixes, spell_suffix, spell_params, spell_more, spell_marks, ArePointers, IsLinked, Grouped, IsAParam, Fits, FitsLinks, FitsTyped, FitsSpecs, FitsSpec, FitsMembers, FitsDecl, FitsCore, FitsSuffixes, FitsParams, FitsMore, Stops, Ends, StructTag, EnumTag, Enum, Decls, no_decls, another, Item, Plain, Valued, Items, no_items, item, after_decls, after_decl, after_item, spell_decls, spell_item, spell_items, spell_tag, spell_comma, FitsDecls, FitsItem, FitsItems, NoBraces}
+use Rattle.c_read.specs.Reading.{Reader, Inner, closed_at, squared_at, braced_at, semi_at, comma_at, ends_braces, ends_list, void_at, run_at, marks_at, colon_at, may_join, picked, link_at, prefix_of, texts_at, paren_at, primary_at, index_at, arguments_at, call_at, post_at, posts_at, with_posts, postfix_at, prefix_at, conversion_at, size_of_at, type_size_at, size_at, cast_at, choice_at, joint_at, links_at, chain, level_at, begins_spec, members_at, struct_at, enum_at, spec_at, specs_at, opens_list, takes_name, needs_name, group_at, core_at, more_at, list_at, params_at, bound_at, array_at, function_at, suffixes_at, decl_at, typed_at, inner, decls_at, struct_body_at, valued_at, item_at, next_item, items_at, last_comma, enum_body_at}
 
 -- ---- lengths
 
@@ -34,7 +34,15 @@ count_specs (spec one more) = count_specs more + 1
 
 abbrev count_members : Members → ℕ
 count_members no_members = 0
-count_members (member t more) = count_members more + 1
+count_members (member t ds more) = count_members more + 1
+
+abbrev count_decls : Decls → ℕ
+count_decls no_decls = 0
+count_decls (another d more) = count_decls more + 1
+
+abbrev count_items : Items → ℕ
+count_items no_items = 0
+count_items (item i more) = count_items more + 1
 
 abbrev count_suffixes : Suffixes → ℕ
 count_suffixes no_suffixes = 0
@@ -52,9 +60,13 @@ grows_texts : (ks : List ℕ) (rest : List Token) → length rest ≤ length (sp
 grows_texts [] rest = omega arith
 grows_texts (k ∷ ks) rest = omega (arith, grows_texts ks rest)
 
-grows_names : (ks : List ℕ) (rest : List Token) → length rest ≤ length (spell_names ks rest)
-grows_names [] rest = omega arith
-grows_names (k ∷ ks) rest = omega (arith, grows_names ks rest)
+grows_tag : (tag : Option ℕ) (rest : List Token) → length rest ≤ length (spell_tag tag rest)
+grows_tag None rest = omega arith
+grows_tag (Some k) rest = omega arith
+
+grows_comma : (c : Bool) (rest : List Token) → length rest ≤ length (spell_comma c rest)
+grows_comma true rest = omega arith
+grows_comma false rest = omega arith
 
 mutual
   pub grows : (e : Expr) (rest : List Token) → length rest ≤ length (spell e rest)
@@ -103,12 +115,27 @@ mutual
   grows_spec : (one : Spec) (rest : List Token) → length rest + 1 ≤ length (spell_spec one rest)
   grows_spec (Keyword w) rest = omega arith
   grows_spec (TypeName k) rest = omega arith
-  grows_spec (Enumerators k ks) rest = omega (arith, grows_names ks (token.BraceClose ∷ rest))
-  grows_spec (Struct members) rest = omega (arith, grows_members members (token.BraceClose ∷ rest))
+  grows_spec (StructTag k) rest = omega arith
+  grows_spec (Struct tag members) rest = omega (arith, grows_tag tag (token.BraceOpen ∷ spell_members members (token.BraceClose ∷ rest)), grows_members members (token.BraceClose ∷ rest))
+  grows_spec (EnumTag k) rest = omega arith
+  grows_spec (Enum tag i is c) rest =
+      omega (arith, grows_tag tag (token.BraceOpen ∷ spell_item i (spell_items is (spell_comma c (token.BraceClose ∷ rest)))), grows_item i (spell_items is (spell_comma c (token.BraceClose ∷ rest))), grows_items is (spell_comma c (token.BraceClose ∷ rest)), grows_comma c (token.BraceClose ∷ rest))
 
   grows_members : (members : Members) (rest : List Token) → count_members members + length rest ≤ length (spell_members members rest)
   grows_members no_members rest = omega arith
-  grows_members (member t more) rest = omega (arith, grows_typed t (token.Semi ∷ spell_members more rest), grows_members more rest)
+  grows_members (member t ds more) rest = omega (arith, grows_typed t (spell_decls ds (token.Semi ∷ spell_members more rest)), grows_decls ds (token.Semi ∷ spell_members more rest), grows_members more rest)
+
+  grows_decls : (ds : Decls) (rest : List Token) → count_decls ds + length rest ≤ length (spell_decls ds rest)
+  grows_decls no_decls rest = omega arith
+  grows_decls (another d more) rest = omega (arith, grows_decl d (spell_decls more rest), grows_decls more rest)
+
+  grows_item : (i : Item) (rest : List Token) → length rest ≤ length (spell_item i rest)
+  grows_item (Plain k) rest = omega arith
+  grows_item (Valued k e) rest = omega (arith, grows e rest)
+
+  grows_items : (is : Items) (rest : List Token) → count_items is + length rest ≤ length (spell_items is rest)
+  grows_items no_items rest = omega arith
+  grows_items (item i more) rest = omega (arith, grows_item i (spell_items more rest), grows_items more rest)
 
   pub grows_decl : (d : Decl) (rest : List Token) → length rest ≤ length (spell_decl d rest)
   grows_decl (decl marks core ends) rest =
@@ -259,17 +286,23 @@ begins n true s (Keyword w) rest f = refl
 begins n false s (Keyword w) rest f = refl
 begins n true s (TypeName k) rest f = absurd cc
 begins n false s (TypeName k) rest f = f.1
-begins n true s (Enumerators k ks) rest f = refl
-begins n false s (Enumerators k ks) rest f = refl
-begins n true s (Struct ms) rest f = refl
-begins n false s (Struct ms) rest f = refl
+begins n true s (StructTag k) rest f = refl
+begins n false s (StructTag k) rest f = refl
+begins n true s (Struct tag ms) rest f = refl
+begins n false s (Struct tag ms) rest f = refl
+begins n true s (EnumTag k) rest f = refl
+begins n false s (EnumTag k) rest f = refl
+begins n true s (Enum tag i is c) rest f = refl
+begins n false s (Enum tag i is c) rest f = refl
 
 starts_typed : (n : ℕ) (a : Allowed) (s : Scope) (t : Typed) (rest : List Token) → FitsTyped n a s t → starts_type s (spell_typed t rest) ≡ true
 starts_typed n a s (typed no_specs d) rest f = absurd cc
 starts_typed n a s (typed (spec (Keyword w) more) d) rest f = refl
 starts_typed n a s (typed (spec (TypeName k) more) d) rest f = f.0.0.1
-starts_typed n a s (typed (spec (Enumerators k ks) more) d) rest f = refl
-starts_typed n a s (typed (spec (Struct ms) more) d) rest f = refl
+starts_typed n a s (typed (spec (StructTag k) more) d) rest f = refl
+starts_typed n a s (typed (spec (Struct tag ms) more) d) rest f = refl
+starts_typed n a s (typed (spec (EnumTag k) more) d) rest f = refl
+starts_typed n a s (typed (spec (Enum tag i is c) more) d) rest f = refl
 
 no_close : (s : Scope) (ts : List Token) → starts_type s ts ≡ true → ends_list ts ≡ None
 unfolding ends_list
@@ -360,10 +393,25 @@ marks_again (mark.Star ∷ ms) rest p n = run_again (mark.Star ∷ ms) rest n
 marks_again (mark.Const ∷ ms) rest p n = absurd p
 marks_again (mark.Restrict ∷ ms) rest p n = absurd p
 
-names_again : (ks : List ℕ) (rest : List Token) → names_at (spell_names ks (token.BraceClose ∷ rest)) ≡ (ks, token.BraceClose ∷ rest)
-unfolding names_at
-names_again [] rest = refl
-names_again (k ∷ ks) rest = rw (names_again ks rest) refl
+decl_no_braces : (d : Decl) (rest : List Token) → NoBraces rest → NoBraces (spell_decl d rest)
+decl_no_braces (decl (mark.Star ∷ ms) core ends) rest b = tt
+decl_no_braces (decl (mark.Const ∷ ms) core ends) rest b = tt
+decl_no_braces (decl (mark.Restrict ∷ ms) core ends) rest b = tt
+decl_no_braces (decl [] (Id k) ends) rest b = tt
+decl_no_braces (decl [] (Group d) ends) rest b = tt
+decl_no_braces (decl [] Absent no_suffixes) rest b = b
+decl_no_braces (decl [] Absent (suffix OpenArray more)) rest b = tt
+decl_no_braces (decl [] Absent (suffix (Array x) more)) rest b = tt
+decl_no_braces (decl [] Absent (suffix (Function ps) more)) rest b = tt
+
+specs_no_braces : (specs : Specs) (rest : List Token) → NoBraces rest → NoBraces (spell_specs specs rest)
+specs_no_braces no_specs rest b = b
+specs_no_braces (spec (Keyword w) more) rest b = tt
+specs_no_braces (spec (TypeName k) more) rest b = tt
+specs_no_braces (spec (StructTag k) more) rest b = tt
+specs_no_braces (spec (Struct tag ms) more) rest b = tt
+specs_no_braces (spec (EnumTag k) more) rest b = tt
+specs_no_braces (spec (Enum tag i is c) more) rest b = tt
 
 -- ---- groups and parameters
 
@@ -418,8 +466,10 @@ void_next (_ ∷ ts) n = refl
 void_then : (more : Specs) (d : Decl) (m : More) (rest : List Token) → IsAParam (typed (spec (Keyword word.Void) more) d) m → NoClose (spell_specs more (spell_decl d (spell_more m (token.Close ∷ rest))))
 void_then (spec (Keyword w) more) d m rest p = tt
 void_then (spec (TypeName k) more) d m rest p = tt
-void_then (spec (Enumerators k ks) more) d m rest p = tt
-void_then (spec (Struct ms) more) d m rest p = tt
+void_then (spec (StructTag k) more) d m rest p = tt
+void_then (spec (Struct tag ms) more) d m rest p = tt
+void_then (spec (EnumTag k) more) d m rest p = tt
+void_then (spec (Enum tag i is c) more) d m rest p = tt
 void_then no_specs (decl (mark.Star ∷ ms) core ends) m rest p = tt
 void_then no_specs (decl (mark.Const ∷ ms) core ends) m rest p = tt
 void_then no_specs (decl (mark.Restrict ∷ ms) core ends) m rest p = tt
@@ -437,8 +487,10 @@ no_void n a s (typed no_specs d) m rest f p = absurd cc
 no_void n a s (typed (spec (Keyword word.Void) more) d) m rest f p = void_next _ (void_then more d m rest p)
 no_void n a s (typed (spec (Keyword _) more) d) m rest f p = refl
 no_void n a s (typed (spec (TypeName k) more) d) m rest f p = refl
-no_void n a s (typed (spec (Enumerators k ks) more) d) m rest f p = refl
-no_void n a s (typed (spec (Struct ms) more) d) m rest f p = refl
+no_void n a s (typed (spec (StructTag k) more) d) m rest f p = refl
+no_void n a s (typed (spec (Struct tag ms) more) d) m rest f p = refl
+no_void n a s (typed (spec (EnumTag k) more) d) m rest f p = refl
+no_void n a s (typed (spec (Enum tag i is c) more) d) m rest f p = refl
 
 takes : (a : Allowed) → (a ≡ Abstract → ⊥) → takes_name a ≡ true
 takes Named ne = refl
@@ -570,6 +622,33 @@ post_no_text Decrement rest = tt
 posts_no_text : (posts : Posts) (rest : List Token) → NoText rest → NoText (spell_posts posts rest)
 posts_no_text no_posts rest t = t
 posts_no_text (post one more) rest t = post_no_text one (spell_posts more rest)
+
+braces_more : (m : More) (rest : List Token) → NoBraces (spell_more m (token.Close ∷ rest))
+braces_more no_more rest = tt
+braces_more (param t more) rest = tt
+
+ends_decls : (ds : Decls) (rest : List Token) → Ends (spell_decls ds (token.Semi ∷ rest))
+ends_decls no_decls rest = tt
+ends_decls (another d more) rest = tt
+
+braces_decls : (ds : Decls) (rest : List Token) → NoBraces (spell_decls ds (token.Semi ∷ rest))
+braces_decls no_decls rest = tt
+braces_decls (another d more) rest = tt
+
+-- what follows an enumerator
+abbrev NoEquals : List Token → Type 0
+NoEquals (token.Equals ∷ ts) = ⊥
+NoEquals _ = Unit {0}
+
+stops_items : (is : Items) (c : Bool) (rest : List Token) → Stops 11 (spell_items is (spell_comma c (token.BraceClose ∷ rest)))
+stops_items no_items true rest = (refl, tt, omega arith)
+stops_items no_items false rest = (refl, tt, tt)
+stops_items (item i more) c rest = (refl, tt, omega arith)
+
+equals_items : (is : Items) (c : Bool) (rest : List Token) → NoEquals (spell_items is (spell_comma c (token.BraceClose ∷ rest)))
+equals_items no_items true rest = tt
+equals_items no_items false rest = tt
+equals_items (item i more) c rest = tt
 
 ends_more : (m : More) (rest : List Token) → Ends (spell_more m (token.Close ∷ rest))
 ends_more no_more rest = tt
@@ -766,22 +845,83 @@ type_step : (r : Inner) (s : Scope) (k : ℕ) (rest : List Token) → spec_at r 
 unfolding spec_at
 type_step r s k rest = refl
 
-enum_step : (r : Inner) (s : Scope) (k : ℕ) (ks : List ℕ) (rest : List Token) → spec_at r s (spell_spec (Enumerators k ks) rest) ≡ Ok (Enumerators k ks, rest)
-unfolding spec_at enum_at enumerators_at braced_at
-enum_step r s k ks rest = rw (names_again ks rest) refl
+struct_body_step : (r : Inner) (tag : Option ℕ) (s : Scope) (ts rest : List Token) (ms : Members) → members_at r (length ts) s ts ≡ Ok (ms, token.BraceClose ∷ rest) → struct_body_at r tag s ts ≡ Ok (Struct tag ms, rest)
+unfolding struct_body_at braced_at
+struct_body_step r tag s ts rest ms e1 = rw e1 refl
 
-struct_step : (r : Inner) (s : Scope) (ts rest : List Token) (ms : Members) → members_at r (length ts) s ts ≡ Ok (ms, token.BraceClose ∷ rest) → spec_at r s (token.Struct ∷ token.BraceOpen ∷ ts) ≡ Ok (Struct ms, rest)
-unfolding spec_at struct_at braced_at
-struct_step r s ts rest ms e1 = rw e1 refl
+struct_step : (r : Inner) (tag : Option ℕ) (s : Scope) (ts : List Token) → spec_at r s (token.Struct ∷ spell_tag tag (token.BraceOpen ∷ ts)) ≡ struct_body_at r tag s ts
+unfolding spec_at struct_at
+struct_step r None s ts = refl
+struct_step r (Some k) s ts = refl
+
+struct_tag_step : (r : Inner) (k : ℕ) (s : Scope) (rest : List Token) → NoBraces rest → spec_at r s (token.Struct ∷ token.Name k ∷ rest) ≡ Ok (StructTag k, rest)
+unfolding spec_at struct_at
+struct_tag_step r k s (token.BraceOpen ∷ ts) b = absurd b
+struct_tag_step r k s [] b = refl
+struct_tag_step r k s (_ ∷ ts) b = refl
+
+enum_step : (r : Inner) (tag : Option ℕ) (s : Scope) (ts : List Token) → spec_at r s (token.Enum ∷ spell_tag tag (token.BraceOpen ∷ ts)) ≡ enum_body_at r tag s ts
+unfolding spec_at enum_at
+enum_step r None s ts = refl
+enum_step r (Some k) s ts = refl
+
+enum_tag_step : (r : Inner) (k : ℕ) (s : Scope) (rest : List Token) → NoBraces rest → spec_at r s (token.Enum ∷ token.Name k ∷ rest) ≡ Ok (EnumTag k, rest)
+unfolding spec_at enum_at
+enum_tag_step r k s (token.BraceOpen ∷ ts) b = absurd b
+enum_tag_step r k s [] b = refl
+enum_tag_step r k s (_ ∷ ts) b = refl
+
+last_again : (c : Bool) (rest : List Token) → last_comma (spell_comma c (token.BraceClose ∷ rest)) ≡ (c, token.BraceClose ∷ rest)
+unfolding last_comma
+last_again true rest = refl
+last_again false rest = refl
+
+enum_body_step : (r : Inner) (tag : Option ℕ) (s : Scope) (ts mid t2 rest : List Token) (i : Item) (is : Items) (c : Bool) → item_at r s ts ≡ Ok (i, mid) → items_at r (length mid) (after_item i s) mid ≡ Ok (is, t2) → last_comma t2 ≡ (c, token.BraceClose ∷ rest) → enum_body_at r tag s ts ≡ Ok (Enum tag i is c, rest)
+unfolding enum_body_at braced_at
+enum_body_step r tag s ts mid t2 rest i is c e1 e2 e3 = rw (e1, e2, e3) refl
+
+plain_step : (r : Inner) (s : Scope) (k : ℕ) (rest : List Token) → NoEquals rest → item_at r s (token.Name k ∷ rest) ≡ Ok (Plain k, rest)
+unfolding item_at
+plain_step r s k (token.Equals ∷ ts) n = absurd n
+plain_step r s k [] n = refl
+plain_step r s k (_ ∷ ts) n = refl
+
+valued_step : (r : Inner) (s : Scope) (k : ℕ) (ts rest : List Token) (e : Expr) → r.expr 11 s ts ≡ Ok (e, rest) → item_at r s (token.Name k ∷ token.Equals ∷ ts) ≡ Ok (Valued k e, rest)
+unfolding item_at valued_at
+valued_step r s k ts rest e e1 = rw e1 refl
+
+items_stop : (r : Inner) (m : ℕ) (s : Scope) (c : Bool) (rest : List Token) → items_at r m s (spell_comma c (token.BraceClose ∷ rest)) ≡ Ok (no_items, spell_comma c (token.BraceClose ∷ rest))
+unfolding items_at next_item
+items_stop r zero s c rest = refl
+items_stop r (suc m) s true rest = refl
+items_stop r (suc m) s false rest = refl
+
+next_again : (i : Item) (rest : List Token) → next_item (token.Comma ∷ spell_item i rest) ≡ Some (spell_item i rest)
+unfolding next_item
+next_again (Plain k) rest = refl
+next_again (Valued k e) rest = refl
+
+items_step : (r : Inner) (m : ℕ) (s : Scope) (ts t1 mid rest : List Token) (i : Item) (more : Items) → next_item ts ≡ Some t1 → item_at r s t1 ≡ Ok (i, mid) → items_at r m (after_item i s) mid ≡ Ok (more, rest) → items_at r (suc m) s ts ≡ Ok (item i more, rest)
+unfolding items_at
+items_step r m s ts t1 mid rest i more e1 e2 e3 = rw (e1, e2, e3) refl
+
+decls_stop : (r : Inner) (m : ℕ) (s : Scope) (rest : List Token) → decls_at r m s (token.Semi ∷ rest) ≡ Ok (no_decls, token.Semi ∷ rest)
+unfolding decls_at comma_at
+decls_stop r zero s rest = refl
+decls_stop r (suc m) s rest = refl
+
+decls_step : (r : Inner) (m : ℕ) (s : Scope) (ts mid rest : List Token) (d : Decl) (more : Decls) → r.decl Named s ts ≡ Ok (d, mid) → decls_at r m (after_decl d s) mid ≡ Ok (more, rest) → decls_at r (suc m) s (token.Comma ∷ ts) ≡ Ok (another d more, rest)
+unfolding decls_at comma_at
+decls_step r m s ts mid rest d more e1 e2 = rw (e1, e2) refl
 
 members_stop : (r : Inner) (m : ℕ) (s : Scope) (rest : List Token) → members_at r m s (token.BraceClose ∷ rest) ≡ Ok (no_members, token.BraceClose ∷ rest)
 unfolding members_at ends_braces
 members_stop r zero s rest = refl
 members_stop r (suc m) s rest = refl
 
-members_step : (r : Inner) (m : ℕ) (s : Scope) (ts mid rest : List Token) (t : Typed) (more : Members) → ends_braces ts ≡ false → r.typed Named s ts ≡ Ok (t, token.Semi ∷ mid) → members_at r m (after_typed t s) mid ≡ Ok (more, rest) → members_at r (suc m) s ts ≡ Ok (member t more, rest)
+members_step : (r : Inner) (m : ℕ) (s : Scope) (ts t1 mid rest : List Token) (t : Typed) (ds : Decls) (more : Members) → ends_braces ts ≡ false → r.typed Named s ts ≡ Ok (t, t1) → decls_at r (length t1) (after_typed t s) t1 ≡ Ok (ds, token.Semi ∷ mid) → members_at r m (after_decls ds (after_typed t s)) mid ≡ Ok (more, rest) → members_at r (suc m) s ts ≡ Ok (member t ds more, rest)
 unfolding members_at semi_at
-members_step r m s ts mid rest t more e1 e2 e3 = rw (e1, e2, e3) refl
+members_step r m s ts t1 mid rest t ds more e1 e2 e3 e4 = rw (e1, e2, e3, e4) refl
 
 typed_step : (r : Inner) (a : Allowed) (s : Scope) (ts mid rest : List Token) (specs : Specs) (d : Decl) → specs_at r (length ts) false s ts ≡ Ok (specs, mid) → decl_at r a (after_specs specs s) mid ≡ Ok (d, rest) → typed_at r a s ts ≡ Ok (typed specs d, rest)
 unfolding typed_at
@@ -888,10 +1028,10 @@ mutual
       low (inner (suc n)) h s (SizeOfExpr e) _ rest stop
       (size_first (inner (suc n)) s (spell e rest) ∙ unary_first (inner (suc n)) n 0 s e rest f.0 f.1 ∙ size_of_step (inner (suc n)) s (spell e rest) rest e (level_again e n 0 s rest f.0 (stops_lower h 0 rest (omega arith) stop)) f.1)
   level_again (SizeOf t) zero h s rest f stop = absurd f
-  level_again (SizeOf t) (suc n) h s rest f stop = low (inner (suc n)) h s (SizeOf t) _ rest stop (size_step (inner (suc n)) s _ rest t (starts_typed n Abstract s t _ f) (typed_again t n Abstract s (token.Close ∷ rest) f tt))
+  level_again (SizeOf t) (suc n) h s rest f stop = low (inner (suc n)) h s (SizeOf t) _ rest stop (size_step (inner (suc n)) s _ rest t (starts_typed n Abstract s t _ f) (typed_again t n Abstract s (token.Close ∷ rest) f tt tt))
   level_again (Cast t e) zero h s rest f stop = absurd f
   level_again (Cast t e) (suc n) h s rest f stop =
-      low (inner (suc n)) h s (Cast t e) _ rest stop (cast_step (inner (suc n)) s _ (spell e rest) rest t e (starts_typed n Abstract s t _ f.0) (typed_again t n Abstract s (token.Close ∷ spell e rest) f.0 tt) (level_again e n 0 (after_typed t s) rest f.1 (stops_lower h 0 rest (omega arith) stop)))
+      low (inner (suc n)) h s (Cast t e) _ rest stop (cast_step (inner (suc n)) s _ (spell e rest) rest t e (starts_typed n Abstract s t _ f.0) (typed_again t n Abstract s (token.Close ∷ spell e rest) f.0 tt tt) (level_again e n 0 (after_typed t s) rest f.1 (stops_lower h 0 rest (omega arith) stop)))
   level_again (Chain k first links) n h s rest f stop =
       let stop' : Stops (suc k) rest = stops_lower h (suc k) rest (omega (arith, f.0)) stop in
       let tail = spell_links links rest in
@@ -951,33 +1091,66 @@ mutual
       (level_again e n h (after_joint j s) (spell_links more rest) f.3 (stops_links n h (after e (after_joint j s)) e more rest f.4 stop))
       (links_again more n h m e (after e (after_joint j s)) rest f.4 stop (omega (arith, le)))
 
-  pub typed_again : (t : Typed) (n : ℕ) (a : Allowed) (s : Scope) (rest : List Token) → FitsTyped n a s t → Ends rest → typed_at (inner n) a s (spell_typed t rest) ≡ Ok (t, rest)
-  typed_again (typed specs d) n a s rest f e =
+  pub typed_again : (t : Typed) (n : ℕ) (a : Allowed) (s : Scope) (rest : List Token) → FitsTyped n a s t → Ends rest → NoBraces rest → typed_at (inner n) a s (spell_typed t rest) ≡ Ok (t, rest)
+  typed_again (typed specs d) n a s rest f e b =
       typed_step (inner n) a s _ (spell_decl d rest) rest specs d
-      (specs_again specs n (length (spell_specs specs (spell_decl d rest))) false s (spell_decl d rest) f.0 (decl_no_spec d rest n a (after_specs specs s) f.1 e) (omega (arith, grows_specs specs (spell_decl d rest))))
+      (specs_again specs n (length (spell_specs specs (spell_decl d rest))) false s (spell_decl d rest) f.0 (decl_no_spec d rest n a (after_specs specs s) f.1 e) (decl_no_braces d rest b) (omega (arith, grows_specs specs (spell_decl d rest))))
       (decl_again d n a (after_specs specs s) rest f.1 e)
 
-  pub specs_again : (specs : Specs) (n m : ℕ) (based : Bool) (s : Scope) (rest : List Token) → FitsSpecs n based s specs → NoSpec rest → count_specs specs ≤ m → specs_at (inner n) m based s (spell_specs specs rest) ≡ Ok (specs, rest)
-  specs_again no_specs n m based s rest f none le = specs_stop (inner n) m based s rest f none
-  specs_again (spec one more) n zero based s rest f none le = absurd (omega arith)
-  specs_again (spec one more) n (suc m) based s rest f none le =
-      specs_step (inner n) m based s _ (spell_specs more rest) rest one more (begins n based s one (spell_specs more rest) f.0) (spec_again one n based s (spell_specs more rest) f.0) (specs_again more n m (or based (is_base one)) (after_spec one s) rest f.1 none (omega (arith, le)))
+  pub specs_again : (specs : Specs) (n m : ℕ) (based : Bool) (s : Scope) (rest : List Token) → FitsSpecs n based s specs → NoSpec rest → NoBraces rest → count_specs specs ≤ m → specs_at (inner n) m based s (spell_specs specs rest) ≡ Ok (specs, rest)
+  specs_again no_specs n m based s rest f none b le = specs_stop (inner n) m based s rest f none
+  specs_again (spec one more) n zero based s rest f none b le = absurd (omega arith)
+  specs_again (spec one more) n (suc m) based s rest f none b le =
+      specs_step (inner n) m based s _ (spell_specs more rest) rest one more (begins n based s one (spell_specs more rest) f.0) (spec_again one n based s (spell_specs more rest) f.0 (specs_no_braces more rest b)) (specs_again more n m (or based (is_base one)) (after_spec one s) rest f.1 none b (omega (arith, le)))
 
-  spec_again : (one : Spec) (n : ℕ) (based : Bool) (s : Scope) (rest : List Token) → FitsSpec n based s one → spec_at (inner n) s (spell_spec one rest) ≡ Ok (one, rest)
-  spec_again (Keyword w) n based s rest f = word_step (inner n) s w rest
-  spec_again (TypeName k) n based s rest f = type_step (inner n) s k rest
-  spec_again (Enumerators k ks) n based s rest f = enum_step (inner n) s k ks rest
-  spec_again (Struct ms) n based s rest f =
+  spec_again : (one : Spec) (n : ℕ) (based : Bool) (s : Scope) (rest : List Token) → FitsSpec n based s one → NoBraces rest → spec_at (inner n) s (spell_spec one rest) ≡ Ok (one, rest)
+  spec_again (Keyword w) n based s rest f b = word_step (inner n) s w rest
+  spec_again (TypeName k) n based s rest f b = type_step (inner n) s k rest
+  spec_again (StructTag k) n based s rest f b = struct_tag_step (inner n) k s rest b
+  spec_again (Struct tag ms) n based s rest f b =
       let tail = spell_members ms (token.BraceClose ∷ rest) in
-      struct_step (inner n) s tail rest ms (members_again ms n (length tail) s rest f (omega (arith, grows_members ms (token.BraceClose ∷ rest))))
+      struct_step (inner n) tag s tail ∙ struct_body_step (inner n) tag s tail rest ms (members_again ms n (length tail) s rest f (omega (arith, grows_members ms (token.BraceClose ∷ rest))))
+  spec_again (EnumTag k) n based s rest f b = enum_tag_step (inner n) k s rest b
+  spec_again (Enum tag i is c) n based s rest f b =
+      let behind = spell_comma c (token.BraceClose ∷ rest) in
+      let tail = spell_items is behind in
+      enum_step (inner n) tag s (spell_item i tail)
+      ∙ enum_body_step (inner n) tag s (spell_item i tail) tail behind rest i is c
+      (item_again i n s tail f.0 (stops_items is c rest) (equals_items is c rest))
+      (items_again is n (length tail) (after_item i s) c rest f.1 (omega (arith, grows_items is behind)))
+      (last_again c rest)
+
+  item_again : (i : Item) (n : ℕ) (s : Scope) (rest : List Token) → FitsItem n s i → Stops 11 rest → NoEquals rest → item_at (inner n) s (spell_item i rest) ≡ Ok (i, rest)
+  item_again (Plain k) n s rest f stop q = plain_step (inner n) s k rest q
+  item_again (Valued k e) zero s rest f stop q = absurd f
+  item_again (Valued k e) (suc n) s rest f stop q = valued_step (inner (suc n)) s k _ rest e (level_again e n 11 s rest f stop)
+
+  items_again : (is : Items) (n m : ℕ) (s : Scope) (c : Bool) (rest : List Token) → FitsItems n s is → count_items is ≤ m → items_at (inner n) m s (spell_items is (spell_comma c (token.BraceClose ∷ rest))) ≡ Ok (is, spell_comma c (token.BraceClose ∷ rest))
+  items_again no_items n m s c rest f le = items_stop (inner n) m s c rest
+  items_again (item i more) n zero s c rest f le = absurd (omega arith)
+  items_again (item i more) n (suc m) s c rest f le =
+      let behind = spell_comma c (token.BraceClose ∷ rest) in
+      let tail = spell_items more behind in
+      items_step (inner n) m s _ _ tail behind i more (next_again i tail) (item_again i n s tail f.0 (stops_items more c rest) (equals_items more c rest)) (items_again more n m (after_item i s) c rest f.1 (omega (arith, le)))
+
+  decls_again : (ds : Decls) (n m : ℕ) (s : Scope) (rest : List Token) → FitsDecls n s ds → count_decls ds ≤ m → decls_at (inner n) m s (spell_decls ds (token.Semi ∷ rest)) ≡ Ok (ds, token.Semi ∷ rest)
+  decls_again no_decls n m s rest f le = decls_stop (inner n) m s rest
+  decls_again (another d more) zero m s rest f le = absurd f
+  decls_again (another d more) (suc n) zero s rest f le = absurd (omega arith)
+  decls_again (another d more) (suc n) (suc m) s rest f le =
+      let tail = spell_decls more (token.Semi ∷ rest) in
+      decls_step (inner (suc n)) m s _ tail (token.Semi ∷ rest) d more (decl_again d n Named s tail f.0 (ends_decls more rest)) (decls_again more (suc n) m (after_decl d s) rest f.1 (omega (arith, le)))
 
   members_again : (ms : Members) (n m : ℕ) (s : Scope) (rest : List Token) → FitsMembers n s ms → count_members ms ≤ m → members_at (inner n) m s (spell_members ms (token.BraceClose ∷ rest)) ≡ Ok (ms, token.BraceClose ∷ rest)
   members_again no_members n m s rest f le = members_stop (inner n) m s rest
-  members_again (member t more) zero m s rest f le = absurd f
-  members_again (member t more) (suc n) zero s rest f le = absurd (omega arith)
-  members_again (member t more) (suc n) (suc m) s rest f le =
+  members_again (member t ds more) zero m s rest f le = absurd f
+  members_again (member t ds more) (suc n) zero s rest f le = absurd (omega arith)
+  members_again (member t ds more) (suc n) (suc m) s rest f le =
       let tail = spell_members more (token.BraceClose ∷ rest) in
-      members_step (inner (suc n)) m s _ tail (token.BraceClose ∷ rest) t more (no_brace s _ (starts_typed n Named s t (token.Semi ∷ tail) f.0)) (typed_again t n Named s (token.Semi ∷ tail) f.0 tt) (members_again more (suc n) m (after_typed t s) rest f.1 (omega (arith, le)))
+      let t1 = spell_decls ds (token.Semi ∷ tail) in
+      members_step (inner (suc n)) m s _ t1 tail (token.BraceClose ∷ rest) t ds more (no_brace s _ (starts_typed n Named s t t1 f.0)) (typed_again t n Named s t1 f.0 (ends_decls ds tail) (braces_decls ds tail))
+      (decls_again ds (suc n) (length t1) (after_typed t s) tail f.1 (omega (arith, grows_decls ds (token.Semi ∷ tail))))
+      (members_again more (suc n) m (after_decls ds (after_typed t s)) rest f.2 (omega (arith, le)))
 
   pub decl_again : (d : Decl) (n : ℕ) (a : Allowed) (s : Scope) (rest : List Token) → FitsDecl n a s d → Ends rest → decl_at (inner n) a s (spell_decl d rest) ≡ Ok (d, rest)
   decl_again (decl marks core ends) n a s rest f e =
@@ -1017,7 +1190,7 @@ mutual
   params_again (Some_params t more) (suc n) s rest f =
       let tail = spell_more more (token.Close ∷ rest) in
       params_step (inner (suc n)) s _ tail rest t more (no_close s _ (starts_typed n Either s t tail f.0)) (no_void n Either s t more rest f.0 f.2)
-      (typed_again t n Either s tail f.0 (ends_more more rest))
+      (typed_again t n Either s tail f.0 (ends_more more rest) (braces_more more rest))
       (more_again more (suc n) (length tail) (after_param t s) rest f.1 (omega (arith, grows_more more (token.Close ∷ rest))))
 
   more_again : (ps : More) (n m : ℕ) (s : Scope) (rest : List Token) → FitsMore n s ps → count_more ps ≤ m → more_at (inner n) m s (spell_more ps (token.Close ∷ rest)) ≡ Ok (ps, token.Close ∷ rest)
@@ -1026,4 +1199,4 @@ mutual
   more_again (param t more) (suc n) zero s rest f le = absurd (omega arith)
   more_again (param t more) (suc n) (suc m) s rest f le =
       let tail = spell_more more (token.Close ∷ rest) in
-      more_step (inner (suc n)) m s _ tail (token.Close ∷ rest) t more (typed_again t n Either s tail f.0 (ends_more more rest)) (more_again more (suc n) m (after_param t s) rest f.1 (omega (arith, le)))
+      more_step (inner (suc n)) m s _ tail (token.Close ∷ rest) t more (typed_again t n Either s tail f.0 (ends_more more rest) (braces_more more rest)) (more_again more (suc n) m (after_param t s) rest f.1 (omega (arith, le)))

@@ -9,8 +9,8 @@ use Rattle.c_read.specs.declared.token.Allowed.TheVariants.{Named, Abstract, Eit
 use Rattle.c_read.specs.declared.token.Token.{Token}
 use Rattle.c_read.specs.declared.token.Token.TheVariants as token
 use Rattle.c_read.specs.declared.fault.Fault.{Fault}
-use Rattle.c_read.specs.Grammar.{Scope, is_type, starts_type, Expr, Name, Number, Byte, Texts, Paren, Postfix, Prefix, SizeOfExpr, SizeOf, Cast, Chain, Posts, no_posts, post, Post, Index, Call, CallNothing, Member, Arrow, Increment, Decrement, Joint, Infix, Choose, Assign, Comma, Links, no_links, link, Sort, OfInfix, OfChoice, OfAssign, OfComma, sort_height, sort_of, begins_post, is_unary, is_primary, takes_operand, after_joint, after_post, sign_of_set, sign_of_prefix, spell_joint, spell_posts, spell_post, spell_texts, Joins, FitsJoint, FitsPosts, FitsPost, Typed, typed, Specs, no_specs, spec, Spec, Keyword, Members, member, Decl, decl, Core, Absent, Id, Group, Suffixes, no_suffixes, Suffix, OpenArray, Array, Function, Params, NoParams, OnlyVoid, Some_params, More, no_more, param, height_of, sign_of, after, after_typed, after_specs, after_spec, after_core, after_suffix, after_param, is_base, or, spell, spell_links, spell_typed, spell_specs, spell_spec, spell_members, spell_decl, spell_core, spell_suffixes, spell_suffix, spell_params, spell_more, spell_marks, spell_names, ArePointers, Grouped, IsAParam, Fits, FitsLinks, FitsTyped, FitsSpecs, FitsSpec, FitsMembers, FitsDecl, FitsCore, FitsSuffixes, FitsSuffix, FitsParams, FitsMore, Within, WithinDecl, WithinTyped}
-use Rattle.c_read.specs.Reading.{◌>>=◌, Reader, Inner, choose, closed_at, squared_at, braced_at, semi_at, comma_at, ends_braces, ends_list, void_at, run_at, marks_at, names_at, colon_at, may_join, picked, link_at, prefix_of, texts_at, paren_at, primary_at, index_at, arguments_at, call_at, post_at, posts_at, with_posts, postfix_at, prefix_at, conversion_at, size_of_at, type_size_at, size_at, cast_at, choice_at, joint_at, links_at, chain, level_at, begins_spec, members_at, struct_at, enum_at, enumerators_at, spec_at, specs_at, opens_list, takes_name, needs_name, group_at, core_at, more_at, list_at, params_at, bound_at, array_at, function_at, suffixes_at, decl_at, typed_at, inner}
+use Rattle.c_read.specs.Grammar.{Scope, is_type, starts_type, Expr, Name, Number, Byte, Texts, Paren, Postfix, Prefix, SizeOfExpr, SizeOf, Cast, Chain, Posts, no_posts, post, Post, Index, Call, CallNothing, Member, Arrow, Increment, Decrement, Joint, Infix, Choose, Assign, Comma, Links, no_links, link, Sort, OfInfix, OfChoice, OfAssign, OfComma, sort_height, sort_of, begins_post, is_unary, is_primary, takes_operand, after_joint, after_post, sign_of_set, sign_of_prefix, spell_joint, spell_posts, spell_post, spell_texts, Joins, FitsJoint, FitsPosts, FitsPost, Typed, typed, Specs, no_specs, spec, Spec, Keyword, Members, member, Decl, decl, Core, Absent, Id, Group, Suffixes, no_suffixes, Suffix, OpenArray, Array, Function, Params, NoParams, OnlyVoid, Some_params, More, no_more, param, height_of, sign_of, after, after_typed, after_specs, after_spec, after_core, after_suffix, after_param, is_base, or, spell, spell_links, spell_typed, spell_specs, spell_spec, spell_members, spell_decl, spell_core, spell_suffixes, spell_suffix, spell_params, spell_more, spell_marks, ArePointers, Grouped, IsAParam, Fits, FitsLinks, FitsTyped, FitsSpecs, FitsSpec, FitsMembers, FitsDecl, FitsCore, FitsSuffixes, FitsSuffix, FitsParams, FitsMore, Within, WithinDecl, WithinTyped, TypeName, StructTag, Struct, EnumTag, Enum, no_members, Decls, no_decls, another, Item, Plain, Valued, Items, no_items, item, after_decls, after_decl, after_item, spell_decls, spell_item, spell_items, spell_tag, spell_comma, FitsDecls, FitsItem, FitsItems, NoBraces}
+use Rattle.c_read.specs.Reading.{◌>>=◌, Reader, Inner, choose, closed_at, squared_at, braced_at, semi_at, comma_at, ends_braces, ends_list, void_at, run_at, marks_at, colon_at, may_join, picked, link_at, prefix_of, texts_at, paren_at, primary_at, index_at, arguments_at, call_at, post_at, posts_at, with_posts, postfix_at, prefix_at, conversion_at, size_of_at, type_size_at, size_at, cast_at, choice_at, joint_at, links_at, chain, level_at, begins_spec, members_at, struct_at, enum_at, spec_at, specs_at, opens_list, takes_name, needs_name, group_at, core_at, more_at, list_at, params_at, bound_at, array_at, function_at, suffixes_at, decl_at, typed_at, inner, decls_at, struct_body_at, valued_at, item_at, next_item, items_at, last_comma, enum_body_at}
 
 -- ---- steps
 
@@ -190,10 +190,19 @@ marks_sound (token.Star ∷ ts) = (ap (λ r. token.Star ∷ r) (run_sound ts), t
 marks_sound [] = (refl, tt)
 marks_sound (_ ∷ ts) = (refl, tt)
 
-names_sound : (ts : List Token) → ts ≡ spell_names (names_at ts).0 (names_at ts).1
-unfolding names_at
-names_sound (token.Comma ∷ token.Name k ∷ ts) = ap (λ r. token.Comma ∷ token.Name k ∷ r) (names_sound ts)
-names_sound _ = refl
+abbrev IsNext : List Token → Option (List Token) → Type 0
+IsNext ts None = Unit {0}
+IsNext ts (Some rest) = ts ≡ token.Comma ∷ rest
+
+next_sound : (ts : List Token) → IsNext ts (next_item ts)
+unfolding next_item
+next_sound (token.Comma ∷ token.Name k ∷ ts) = refl
+next_sound _ = tt
+
+last_sound : (ts : List Token) → ts ≡ spell_comma (last_comma ts).0 (last_comma ts).1
+unfolding last_comma
+last_sound (token.Comma ∷ ts) = refl
+last_sound _ = refl
 
 -- ---- chains
 
@@ -265,9 +274,21 @@ cast_fits : (n h : ℕ) (s : Scope) (t : Typed) (e : Expr) → WithinTyped n Abs
 cast_fits zero h s t e w v = w
 cast_fits (suc n) h s t e w v = (w, v)
 
-member_fits : (n : ℕ) (s : Scope) (t : Typed) (more : Members) → WithinTyped n Named s t → FitsMembers n (after_typed t s) more → FitsMembers n s (member t more)
-member_fits zero s t more w m = w
-member_fits (suc n) s t more w m = (w, m)
+member_fits : (n : ℕ) (s : Scope) (t : Typed) (ds : Decls) (more : Members) → WithinTyped n Named s t → FitsDecls n (after_typed t s) ds → FitsMembers n (after_decls ds (after_typed t s)) more → FitsMembers n s (member t ds more)
+member_fits zero s t ds more w d m = w
+member_fits (suc n) s t ds more w d m = (w, d, m)
+
+decls_fit : (n : ℕ) (s : Scope) (d : Decl) (more : Decls) → WithinDecl n Named s d → FitsDecls n (after_decl d s) more → FitsDecls n s (another d more)
+decls_fit zero s d more w m = w
+decls_fit (suc n) s d more w m = (w, m)
+
+valued_fits : (n : ℕ) (s : Scope) (k : ℕ) (e : Expr) → Within n 11 s e → FitsItem n s (Valued k e)
+valued_fits zero s k e w = w
+valued_fits (suc n) s k e w = w
+
+plain_fits : (n : ℕ) (s : Scope) (k : ℕ) → FitsItem n s (Plain k)
+plain_fits zero s k = tt
+plain_fits (suc n) s k = tt
 
 group_fits : (n : ℕ) (a : Allowed) (s : Scope) (d : Decl) → WithinDecl n a s d → Grouped a s d → FitsCore n a s (Group d)
 group_fits zero a s d w g = w
@@ -535,6 +556,18 @@ module _ (r : Inner) (n : ℕ) (i : SoundInner r n) where
 
   -- specifiers
 
+  abbrev AreDecls : Scope → List Token → Decls × List Token → Type 0
+  AreDecls s ts y = (ts ≡ spell_decls y.0 y.1) × FitsDecls n s y.0
+
+  decls_sound : (k : ℕ) (s : Scope) (ts : List Token) → IfOk (decls_at r k s ts) (AreDecls s ts)
+  unfolding decls_at
+  decls_sound zero s ts = (refl, tt)
+  decls_sound (suc k) s ts =
+      chosen (comma_at ts) _ _ (IsComma ts) _ (comma_sound ts) (λ _. (refl, tt)) (λ rest c.
+      ok_then (r.decl Named s rest) _ (InDecl Named s rest) _ (i.decl Named s rest) (λ x p.
+      ok_then (decls_at r k (after_decl x.0 s) x.1) _ (AreDecls (after_decl x.0 s) x.1) _ (decls_sound k (after_decl x.0 s) x.1) (λ y q.
+      (c ∙ ap (λ r. token.Comma ∷ r) (p.0 ∙ ap (spell_decl x.0) q.0), decls_fit n s x.0 y.0 p.1 q.1))))
+
   abbrev AreMembers : Scope → List Token → Members × List Token → Type 0
   AreMembers s ts y = (ts ≡ spell_members y.0 y.1) × FitsMembers n s y.0
 
@@ -544,33 +577,72 @@ module _ (r : Inner) (n : ℕ) (i : SoundInner r n) where
   members_sound (suc k) s ts =
       tested (ends_braces ts) _ _ _ (λ e. (refl, tt)) (λ e.
       ok_then (r.typed Named s ts) _ (InTyped Named s ts) _ (i.typed Named s ts) (λ x p.
-      ok_then (semi_at x.1) _ (λ rest. x.1 ≡ token.Semi ∷ rest) _ (semi_sound x.1) (λ rest c.
-      ok_then (members_at r k (after_typed x.0 s) rest) _ (AreMembers (after_typed x.0 s) rest) _ (members_sound k (after_typed x.0 s) rest) (λ y q.
-      (p.0 ∙ ap (spell_typed x.0) (c ∙ ap (λ r. token.Semi ∷ r) q.0), member_fits n s x.0 y.0 p.1 q.1)))))
+      ok_then (decls_at r (length x.1) (after_typed x.0 s) x.1) _ (AreDecls (after_typed x.0 s) x.1) _ (decls_sound (length x.1) (after_typed x.0 s) x.1) (λ d m.
+      ok_then (semi_at d.1) _ (λ rest. d.1 ≡ token.Semi ∷ rest) _ (semi_sound d.1) (λ rest c.
+      ok_then (members_at r k (after_decls d.0 (after_typed x.0 s)) rest) _ (AreMembers (after_decls d.0 (after_typed x.0 s)) rest) _ (members_sound k (after_decls d.0 (after_typed x.0 s)) rest) (λ y q.
+      (p.0 ∙ ap (spell_typed x.0) (m.0 ∙ ap (spell_decls d.0) (c ∙ ap (λ r. token.Semi ∷ r) q.0)), member_fits n s x.0 d.0 y.0 p.1 m.1 q.1))))))
 
   abbrev IsSpec : Bool → Scope → List Token → Spec × List Token → Type 0
   IsSpec based s ts x = (ts ≡ spell_spec x.0 x.1) × FitsSpec n based s x.0
 
-  struct_sound : (based : Bool) (s : Scope) (ts : List Token) → IfOk (struct_at r s ts) (IsSpec based s (token.Struct ∷ ts))
-  unfolding struct_at
-  struct_sound based s (token.BraceOpen ∷ ts) =
+  struct_body_sound : (based : Bool) (tag : Option ℕ) (s : Scope) (ts : List Token) → IfOk (struct_body_at r tag s ts) (IsSpec based s (token.Struct ∷ spell_tag tag (token.BraceOpen ∷ ts)))
+  unfolding struct_body_at
+  struct_body_sound based tag s ts =
       ok_then (members_at r (length ts) s ts) _ (AreMembers s ts) _ (members_sound (length ts) s ts) (λ x p.
       ok_then (braced_at x.1) _ (λ rest. x.1 ≡ token.BraceClose ∷ rest) _ (braced_sound x.1) (λ rest c.
-      (ap (λ r. token.Struct ∷ token.BraceOpen ∷ r) (p.0 ∙ ap (spell_members x.0) c), p.1)))
+      (ap (λ r. token.Struct ∷ spell_tag tag (token.BraceOpen ∷ r)) (p.0 ∙ ap (spell_members x.0) c), p.1)))
+
+  struct_sound : (based : Bool) (s : Scope) (ts : List Token) → IfOk (struct_at r s ts) (IsSpec based s (token.Struct ∷ ts))
+  unfolding struct_at
+  struct_sound based s (token.BraceOpen ∷ ts) = struct_body_sound based None s ts
+  struct_sound based s (token.Name k ∷ token.BraceOpen ∷ ts) = struct_body_sound based (Some k) s ts
+  struct_sound based s (token.Name k ∷ []) = (refl, tt)
+  struct_sound based s (token.Name k ∷ _ ∷ ts) = (refl, tt)
   struct_sound based s [] = tt
   struct_sound based s (_ ∷ ts) = tt
 
-  enumerators_sound : (based : Bool) (s : Scope) (ts : List Token) → IfOk (enumerators_at ts) (IsSpec based s (token.Enum ∷ token.BraceOpen ∷ ts))
-  unfolding enumerators_at
-  enumerators_sound based s (token.Name k ∷ ts) =
-      ok_then (braced_at (names_at ts).1) _ (λ rest. (names_at ts).1 ≡ token.BraceClose ∷ rest) _ (braced_sound (names_at ts).1) (λ rest c.
-      (ap (λ r. token.Enum ∷ token.BraceOpen ∷ token.Name k ∷ r) (names_sound ts ∙ ap (spell_names (names_at ts).0) c), tt))
-  enumerators_sound based s [] = tt
-  enumerators_sound based s (_ ∷ ts) = tt
+  abbrev IsItem : Scope → List Token → Item × List Token → Type 0
+  IsItem s ts x = (ts ≡ spell_item x.0 x.1) × FitsItem n s x.0
 
-  enum_sound : (based : Bool) (s : Scope) (ts : List Token) → IfOk (enum_at ts) (IsSpec based s (token.Enum ∷ ts))
+  valued_sound : (k : ℕ) (s : Scope) (ts : List Token) → IfOk (valued_at r k s ts) (IsItem s (token.Name k ∷ token.Equals ∷ ts))
+  unfolding valued_at
+  valued_sound k s ts =
+      ok_then (r.expr 11 s ts) _ (InExpr 11 s ts) _ (i.expr 11 s ts) (λ x p. (ap (λ r. token.Name k ∷ token.Equals ∷ r) p.0, valued_fits n s k x.0 p.1))
+
+  item_sound : (s : Scope) (ts : List Token) → IfOk (item_at r s ts) (IsItem s ts)
+  unfolding item_at
+  item_sound s (token.Name k ∷ token.Equals ∷ ts) = valued_sound k s ts
+  item_sound s (token.Name k ∷ []) = (refl, plain_fits n s k)
+  item_sound s (token.Name k ∷ _ ∷ ts) = (refl, plain_fits n s k)
+  item_sound s [] = tt
+  item_sound s (_ ∷ ts) = tt
+
+  abbrev AreItems : Scope → List Token → Items × List Token → Type 0
+  AreItems s ts y = (ts ≡ spell_items y.0 y.1) × FitsItems n s y.0
+
+  items_sound : (k : ℕ) (s : Scope) (ts : List Token) → IfOk (items_at r k s ts) (AreItems s ts)
+  unfolding items_at
+  items_sound zero s ts = (refl, tt)
+  items_sound (suc k) s ts =
+      chosen (next_item ts) _ _ (IsNext ts) _ (next_sound ts) (λ _. (refl, tt)) (λ rest c.
+      ok_then (item_at r s rest) _ (IsItem s rest) _ (item_sound s rest) (λ x p.
+      ok_then (items_at r k (after_item x.0 s) x.1) _ (AreItems (after_item x.0 s) x.1) _ (items_sound k (after_item x.0 s) x.1) (λ y q.
+      (c ∙ ap (λ r. token.Comma ∷ r) (p.0 ∙ ap (spell_item x.0) q.0), (p.1, q.1)))))
+
+  enum_body_sound : (based : Bool) (tag : Option ℕ) (s : Scope) (ts : List Token) → IfOk (enum_body_at r tag s ts) (IsSpec based s (token.Enum ∷ spell_tag tag (token.BraceOpen ∷ ts)))
+  unfolding enum_body_at
+  enum_body_sound based tag s ts =
+      ok_then (item_at r s ts) _ (IsItem s ts) _ (item_sound s ts) (λ x p.
+      ok_then (items_at r (length x.1) (after_item x.0 s) x.1) _ (AreItems (after_item x.0 s) x.1) _ (items_sound (length x.1) (after_item x.0 s) x.1) (λ y q.
+      ok_then (braced_at (last_comma y.1).1) _ (λ rest. (last_comma y.1).1 ≡ token.BraceClose ∷ rest) _ (braced_sound (last_comma y.1).1) (λ rest c.
+      (ap (λ r. token.Enum ∷ spell_tag tag (token.BraceOpen ∷ r)) (p.0 ∙ ap (spell_item x.0) (q.0 ∙ ap (spell_items y.0) (last_sound y.1 ∙ ap (spell_comma (last_comma y.1).0) c))), (p.1, q.1)))))
+
+  enum_sound : (based : Bool) (s : Scope) (ts : List Token) → IfOk (enum_at r s ts) (IsSpec based s (token.Enum ∷ ts))
   unfolding enum_at
-  enum_sound based s (token.BraceOpen ∷ ts) = enumerators_sound based s ts
+  enum_sound based s (token.BraceOpen ∷ ts) = enum_body_sound based None s ts
+  enum_sound based s (token.Name k ∷ token.BraceOpen ∷ ts) = enum_body_sound based (Some k) s ts
+  enum_sound based s (token.Name k ∷ []) = (refl, tt)
+  enum_sound based s (token.Name k ∷ _ ∷ ts) = (refl, tt)
   enum_sound based s [] = tt
   enum_sound based s (_ ∷ ts) = tt
 

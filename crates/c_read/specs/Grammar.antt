@@ -33,10 +33,6 @@ abbrev pub bind : Option ℕ → Bool → Scope → Scope
 bind None t s = s
 bind (Some k) t s = s ++ record { name = k; is_type = t } ∷ []
 
-abbrev pub bind_all : List ℕ → Scope → Scope
-bind_all [] s = s
-bind_all (k ∷ ks) s = bind_all ks (bind (Some k) false s)
-
 -- whether specifiers begin here
 abbrev pub starts_type : Scope → List Token → Bool
 starts_type s (token.Name k ∷ ts) = is_type s k
@@ -99,12 +95,28 @@ mutual
   pub data Spec : Type 0 where
     Keyword : (w : SpecifierWord) → Spec
     TypeName : (k : ℕ) → Spec
-    Enumerators : (first : ℕ) (rest : List ℕ) → Spec
-    Struct : (members : Members) → Spec
+    StructTag : (k : ℕ) → Spec
+    Struct : (tag : Option ℕ) (members : Members) → Spec
+    EnumTag : (k : ℕ) → Spec
+    Enum : (tag : Option ℕ) (first : Item) (rest : Items) (comma : Bool) → Spec
 
+  -- members that are declared together have their specifiers once
   pub data Members : Type 0 where
     no_members : Members
-    member : (t : Typed) (rest : Members) → Members
+    member : (t : Typed) (others : Decls) (rest : Members) → Members
+
+  pub data Decls : Type 0 where
+    no_decls : Decls
+    another : (d : Decl) (rest : Decls) → Decls
+
+  -- an enumerator, with its value or without
+  pub data Item : Type 0 where
+    Plain : (k : ℕ) → Item
+    Valued : (k : ℕ) (e : Expr) → Item
+
+  pub data Items : Type 0 where
+    no_items : Items
+    item : (one : Item) (rest : Items) → Items
 
   pub data Decl : Type 0 where
     decl : (marks : List PointerMark) (core : Core) (suffixes : Suffixes) → Decl
@@ -216,9 +228,13 @@ abbrev pub spell_texts : List ℕ → List Token → List Token
 spell_texts [] rest = rest
 spell_texts (k ∷ ks) rest = token.Text k ∷ spell_texts ks rest
 
-abbrev pub spell_names : List ℕ → List Token → List Token
-spell_names [] rest = rest
-spell_names (k ∷ ks) rest = token.Comma ∷ token.Name k ∷ spell_names ks rest
+abbrev pub spell_tag : Option ℕ → List Token → List Token
+spell_tag None rest = rest
+spell_tag (Some k) rest = token.Name k ∷ rest
+
+abbrev pub spell_comma : Bool → List Token → List Token
+spell_comma true rest = token.Comma ∷ rest
+spell_comma false rest = rest
 
 abbrev mutual
   pub spell : Expr → List Token → List Token
@@ -267,12 +283,26 @@ abbrev mutual
   pub spell_spec : Spec → List Token → List Token
   spell_spec (Keyword w) rest = token.Word w ∷ rest
   spell_spec (TypeName k) rest = token.Name k ∷ rest
-  spell_spec (Enumerators k ks) rest = token.Enum ∷ token.BraceOpen ∷ token.Name k ∷ spell_names ks (token.BraceClose ∷ rest)
-  spell_spec (Struct members) rest = token.Struct ∷ token.BraceOpen ∷ spell_members members (token.BraceClose ∷ rest)
+  spell_spec (StructTag k) rest = token.Struct ∷ token.Name k ∷ rest
+  spell_spec (Struct tag members) rest = token.Struct ∷ spell_tag tag (token.BraceOpen ∷ spell_members members (token.BraceClose ∷ rest))
+  spell_spec (EnumTag k) rest = token.Enum ∷ token.Name k ∷ rest
+  spell_spec (Enum tag i is c) rest = token.Enum ∷ spell_tag tag (token.BraceOpen ∷ spell_item i (spell_items is (spell_comma c (token.BraceClose ∷ rest))))
 
   pub spell_members : Members → List Token → List Token
   spell_members no_members rest = rest
-  spell_members (member t more) rest = spell_typed t (token.Semi ∷ spell_members more rest)
+  spell_members (member t ds more) rest = spell_typed t (spell_decls ds (token.Semi ∷ spell_members more rest))
+
+  pub spell_decls : Decls → List Token → List Token
+  spell_decls no_decls rest = rest
+  spell_decls (another d more) rest = token.Comma ∷ spell_decl d (spell_decls more rest)
+
+  pub spell_item : Item → List Token → List Token
+  spell_item (Plain k) rest = token.Name k ∷ rest
+  spell_item (Valued k e) rest = token.Name k ∷ token.Equals ∷ spell e rest
+
+  pub spell_items : Items → List Token → List Token
+  spell_items no_items rest = rest
+  spell_items (item i more) rest = token.Comma ∷ spell_item i (spell_items more rest)
 
   pub spell_decl : Decl → List Token → List Token
   spell_decl (decl marks core ends) rest = spell_marks marks (spell_core core (spell_suffixes ends rest))
@@ -343,12 +373,27 @@ abbrev mutual
   pub after_spec : Spec → Scope → Scope
   after_spec (Keyword w) s = s
   after_spec (TypeName k) s = s
-  after_spec (Enumerators k ks) s = bind_all (k ∷ ks) s
-  after_spec (Struct members) s = after_members members s
+  after_spec (StructTag k) s = s
+  after_spec (Struct tag members) s = after_members members s
+  after_spec (EnumTag k) s = s
+  after_spec (Enum tag i is c) s = after_items is (after_item i s)
 
   pub after_members : Members → Scope → Scope
   after_members no_members s = s
-  after_members (member t more) s = after_members more (after_typed t s)
+  after_members (member t ds more) s = after_members more (after_decls ds (after_typed t s))
+
+  pub after_decls : Decls → Scope → Scope
+  after_decls no_decls s = s
+  after_decls (another d more) s = after_decls more (after_decl d s)
+
+  -- an enumerator is declared behind its value (6.2.1p7)
+  pub after_item : Item → Scope → Scope
+  after_item (Plain k) s = bind (Some k) false s
+  after_item (Valued k e) s = bind (Some k) false (after e s)
+
+  pub after_items : Items → Scope → Scope
+  after_items no_items s = s
+  after_items (item i more) s = after_items more (after_item i s)
 
   pub after_decl : Decl → Scope → Scope
   after_decl (decl marks core ends) s = after_suffixes ends (after_core core s)
@@ -399,6 +444,8 @@ inside _ s = s
 
 abbrev pub is_base : Spec → Bool
 is_base (Keyword word.Typedef) = false
+is_base (Keyword word.Extern) = false
+is_base (Keyword word.Static) = false
 is_base (Keyword word.Const) = false
 is_base _ = true
 
@@ -514,13 +561,29 @@ abbrev mutual
   pub FitsSpec : ℕ → Bool → Scope → Spec → Type 0
   FitsSpec n based s (Keyword w) = Unit {0}
   FitsSpec n based s (TypeName k) = (based ≡ false) × (is_type s k ≡ true)
-  FitsSpec n based s (Enumerators k ks) = Unit {0}
-  FitsSpec n based s (Struct members) = FitsMembers n s members
+  FitsSpec n based s (StructTag k) = Unit {0}
+  FitsSpec n based s (Struct tag members) = FitsMembers n s members
+  FitsSpec n based s (EnumTag k) = Unit {0}
+  FitsSpec n based s (Enum tag i is c) = FitsItem n s i × FitsItems n (after_item i s) is
 
   pub FitsMembers : ℕ → Scope → Members → Type 0
   FitsMembers n s no_members = Unit {0}
-  FitsMembers zero s (member t more) = ⊥
-  FitsMembers (suc n) s (member t more) = FitsTyped n Named s t × FitsMembers (suc n) (after_typed t s) more
+  FitsMembers zero s (member t ds more) = ⊥
+  FitsMembers (suc n) s (member t ds more) = FitsTyped n Named s t × FitsDecls (suc n) (after_typed t s) ds × FitsMembers (suc n) (after_decls ds (after_typed t s)) more
+
+  pub FitsDecls : ℕ → Scope → Decls → Type 0
+  FitsDecls n s no_decls = Unit {0}
+  FitsDecls zero s (another d more) = ⊥
+  FitsDecls (suc n) s (another d more) = FitsDecl n Named s d × FitsDecls (suc n) (after_decl d s) more
+
+  pub FitsItem : ℕ → Scope → Item → Type 0
+  FitsItem n s (Plain k) = Unit {0}
+  FitsItem zero s (Valued k e) = ⊥
+  FitsItem (suc n) s (Valued k e) = Fits n 11 s e
+
+  pub FitsItems : ℕ → Scope → Items → Type 0
+  FitsItems n s no_items = Unit {0}
+  FitsItems n s (item i more) = FitsItem n s i × FitsItems n (after_item i s) more
 
   pub FitsDecl : ℕ → Allowed → Scope → Decl → Type 0
   FitsDecl n a s (decl marks core ends) = ArePointers marks × FitsCore n a s core × FitsSuffixes n (after_core core s) ends
@@ -638,6 +701,11 @@ NoJoint h (t ∷ ts) = Quiet h (sort_of t)
 -- what follows doesn't go on with an expression of this height
 abbrev pub Stops : ℕ → List Token → Type 0
 Stops h ts = (begins_post ts ≡ false) × NoText ts × NoJoint h ts
+
+-- a tag is not followed by the braces of what it names
+abbrev pub NoBraces : List Token → Type 0
+NoBraces (token.BraceOpen ∷ ts) = ⊥
+NoBraces _ = Unit {0}
 
 -- what follows doesn't go on with a declarator
 abbrev pub Ends : List Token → Type 0

@@ -13,7 +13,7 @@ use Rattle.c_read.specs.declared.fault.Kind.TheVariants.{Form, Deep}
 use Rattle.c_read.specs.declared.fault.Fault.{Fault}
 use Rattle.c_read.specs.declared.fault.ReadError.{ReadError}
 use Rattle.c_read.specs.declared.fault.ReadError.TheVariants as errors
-use Rattle.c_read.specs.Grammar.{Scope, is_type, starts_type, Expr, Name, Number, Byte, Texts, Paren, Postfix, Prefix, SizeOfExpr, SizeOf, Cast, Chain, Posts, no_posts, post, Post, Index, Call, CallNothing, Member, Arrow, Increment, Decrement, Joint, Infix, Choose, Assign, Comma, Links, no_links, link, Sort, OfInfix, OfChoice, OfAssign, OfComma, sort_height, sort_of, begins_post, is_unary, takes_operand, after_joint, after_post, Typed, typed, Specs, no_specs, spec, Spec, Keyword, TypeName, Enumerators, Struct, Members, no_members, member, Decl, decl, Core, Absent, Id, Group, Suffixes, no_suffixes, suffix, Suffix, OpenArray, Array, Function, Params, NoParams, OnlyVoid, Some_params, More, no_more, param, after, after_typed, after_specs, after_spec, after_core, after_suffix, after_param, is_base, or}
+use Rattle.c_read.specs.Grammar.{Scope, is_type, starts_type, Expr, Name, Number, Byte, Texts, Paren, Postfix, Prefix, SizeOfExpr, SizeOf, Cast, Chain, Posts, no_posts, post, Post, Index, Call, CallNothing, Member, Arrow, Increment, Decrement, Joint, Infix, Choose, Assign, Comma, Links, no_links, link, Sort, OfInfix, OfChoice, OfAssign, OfComma, sort_height, sort_of, begins_post, is_unary, takes_operand, after_joint, after_post, Typed, typed, Specs, no_specs, spec, Spec, Keyword, TypeName, StructTag, Struct, EnumTag, Enum, Members, no_members, member, Decls, no_decls, another, Item, Plain, Valued, Items, no_items, item, after_decls, after_decl, after_item, Decl, decl, Core, Absent, Id, Group, Suffixes, no_suffixes, suffix, Suffix, OpenArray, Array, Function, Params, NoParams, OnlyVoid, Some_params, More, no_more, param, after, after_typed, after_specs, after_spec, after_core, after_suffix, after_param, is_base, or}
 
 infixl 10 ◌>>=◌
 abbrev pub ◌>>=◌ : {A B : Type 0} → Result A Fault → (A → Result B Fault) → Result B Fault
@@ -146,11 +146,6 @@ unfoldable pub marks_at : List Token → List PointerMark × List Token
 marks_at (token.Star ∷ ts) = run_at (token.Star ∷ ts)
 marks_at ts = ([], ts)
 
--- more names, each behind a comma
-unfoldable pub names_at : List Token → List ℕ × List Token
-names_at (token.Comma ∷ token.Name k ∷ ts) = (k ∷ (names_at ts).0, (names_at ts).1)
-names_at ts = ([], ts)
-
 -- ---- expressions
 
 unfoldable pub paren_at : Inner → Reader Expr
@@ -250,29 +245,65 @@ unfoldable pub begins_spec : Bool → Scope → List Token → Bool
 begins_spec true s (token.Name k ∷ ts) = false
 begins_spec based s ts = starts_type s ts
 
+-- at most so many more declarators
+unfoldable pub decls_at : Inner → ℕ → Reader Decls
+decls_at r zero s ts = Ok (no_decls, ts)
+decls_at r (suc k) s ts = choose (comma_at ts) (Ok (no_decls, ts))
+    (λ rest. r.decl Named s rest >>= λ x. decls_at r k (after_decl x.0 s) x.1 >>= λ y. Ok (another x.0 y.0, y.1))
+
 -- at most so many members
 unfoldable pub members_at : Inner → ℕ → Reader Members
 members_at r zero s ts = Ok (no_members, ts)
 members_at r (suc k) s ts = if ends_braces ts then Ok (no_members, ts) else
-    r.typed Named s ts >>= λ x. semi_at x.1 >>= λ rest. members_at r k (after_typed x.0 s) rest >>= λ y. Ok (member x.0 y.0, y.1)
+    r.typed Named s ts >>= λ x. decls_at r (length x.1) (after_typed x.0 s) x.1 >>= λ d. semi_at d.1 >>= λ rest. members_at r k (after_decls d.0 (after_typed x.0 s)) rest >>= λ y. Ok (member x.0 d.0 y.0, y.1)
+
+unfoldable pub struct_body_at : Inner → Option ℕ → Reader Spec
+struct_body_at r tag s ts = members_at r (length ts) s ts >>= λ x. braced_at x.1 >>= λ rest. Ok (Struct tag x.0, rest)
 
 unfoldable pub struct_at : Inner → Reader Spec
-struct_at r s (token.BraceOpen ∷ ts) = members_at r (length ts) s ts >>= λ x. braced_at x.1 >>= λ rest. Ok (Struct x.0, rest)
+struct_at r s (token.BraceOpen ∷ ts) = struct_body_at r None s ts
+struct_at r s (token.Name k ∷ token.BraceOpen ∷ ts) = struct_body_at r (Some k) s ts
+struct_at r s (token.Name k ∷ ts) = Ok (StructTag k, ts)
 struct_at r s ts = broken ts
 
-unfoldable pub enumerators_at : List Token → Read Spec
-enumerators_at (token.Name k ∷ ts) = braced_at (names_at ts).1 >>= λ rest. Ok (Enumerators k (names_at ts).0, rest)
-enumerators_at ts = broken ts
+unfoldable pub valued_at : Inner → ℕ → Reader Item
+valued_at r k s ts = r.expr 11 s ts >>= λ x. Ok (Valued k x.0, x.1)
 
-unfoldable pub enum_at : List Token → Read Spec
-enum_at (token.BraceOpen ∷ ts) = enumerators_at ts
-enum_at ts = broken ts
+unfoldable pub item_at : Inner → Reader Item
+item_at r s (token.Name k ∷ token.Equals ∷ ts) = valued_at r k s ts
+item_at r s (token.Name k ∷ ts) = Ok (Plain k, ts)
+item_at r s ts = broken ts
+
+-- a comma with an enumerator behind it
+unfoldable pub next_item : List Token → Option (List Token)
+next_item (token.Comma ∷ token.Name k ∷ ts) = Some (token.Name k ∷ ts)
+next_item ts = None
+
+-- at most so many more enumerators
+unfoldable pub items_at : Inner → ℕ → Reader Items
+items_at r zero s ts = Ok (no_items, ts)
+items_at r (suc k) s ts = choose (next_item ts) (Ok (no_items, ts))
+    (λ rest. item_at r s rest >>= λ x. items_at r k (after_item x.0 s) x.1 >>= λ y. Ok (item x.0 y.0, y.1))
+
+-- a comma, or none
+unfoldable pub last_comma : List Token → Bool × List Token
+last_comma (token.Comma ∷ ts) = (true, ts)
+last_comma ts = (false, ts)
+
+unfoldable pub enum_body_at : Inner → Option ℕ → Reader Spec
+enum_body_at r tag s ts = item_at r s ts >>= λ x. items_at r (length x.1) (after_item x.0 s) x.1 >>= λ y. braced_at (last_comma y.1).1 >>= λ rest. Ok (Enum tag x.0 y.0 (last_comma y.1).0, rest)
+
+unfoldable pub enum_at : Inner → Reader Spec
+enum_at r s (token.BraceOpen ∷ ts) = enum_body_at r None s ts
+enum_at r s (token.Name k ∷ token.BraceOpen ∷ ts) = enum_body_at r (Some k) s ts
+enum_at r s (token.Name k ∷ ts) = Ok (EnumTag k, ts)
+enum_at r s ts = broken ts
 
 unfoldable pub spec_at : Inner → Reader Spec
 spec_at r s (token.Name k ∷ ts) = Ok (TypeName k, ts)
 spec_at r s (token.Word w ∷ ts) = Ok (Keyword w, ts)
 spec_at r s (token.Struct ∷ ts) = struct_at r s ts
-spec_at r s (token.Enum ∷ ts) = enum_at ts
+spec_at r s (token.Enum ∷ ts) = enum_at r s ts
 spec_at r s ts = broken ts
 
 -- there is a base
