@@ -9,7 +9,7 @@ use Rattle.c_read.specs.declared.token.Allowed.TheVariants.{Named, Abstract, Eit
 use Rattle.c_read.specs.declared.token.Token.{Token}
 use Rattle.c_read.specs.declared.token.Token.TheVariants as token
 use Rattle.c_read.specs.declared.fault.Fault.{Fault}
-use Rattle.c_read.specs.Grammar.{Scope, is_type, starts_type, Expr, Name, Number, Byte, Texts, Paren, Postfix, Prefix, SizeOfExpr, SizeOf, Cast, Chain, Posts, no_posts, post, Post, Index, Call, CallNothing, Member, Arrow, Increment, Decrement, Joint, Infix, Choose, Assign, Comma, Links, no_links, link, Sort, OfInfix, OfChoice, OfAssign, OfComma, sort_height, sort_of, begins_post, is_unary, is_primary, takes_operand, after_joint, after_post, sign_of_set, sign_of_prefix, spell_joint, spell_posts, spell_post, spell_texts, Joins, FitsJoint, FitsPosts, FitsPost, Typed, typed, Specs, no_specs, spec, Spec, Keyword, Members, member, Decl, decl, Core, Absent, Id, Group, Suffixes, no_suffixes, Suffix, OpenArray, Array, Function, Params, NoParams, OnlyVoid, Some_params, More, no_more, param, height_of, sign_of, after, after_typed, after_specs, after_spec, after_core, after_suffix, after_param, is_base, or, spell, spell_links, spell_typed, spell_specs, spell_spec, spell_members, spell_decl, spell_core, spell_suffixes, spell_suffix, spell_params, spell_more, spell_marks, ArePointers, Grouped, IsAParam, Fits, FitsLinks, FitsTyped, FitsSpecs, FitsSpec, FitsMembers, FitsDecl, FitsCore, FitsSuffixes, FitsSuffix, FitsParams, FitsMore, Within, WithinDecl, WithinTyped, TypeName, StructTag, Struct, EnumTag, Enum, no_members, Decls, no_decls, another, Item, Plain, Valued, Items, no_items, item, after_decls, after_decl, after_item, spell_decls, spell_item, spell_items, spell_tag, spell_comma, FitsDecls, FitsItem, FitsItems, NoBraces}
+use Rattle.c_read.specs.Grammar.{Scope, is_type, starts_type, Expr, Name, Number, Byte, Texts, Paren, Postfix, Prefix, SizeOfExpr, SizeOf, Cast, Chain, Posts, no_posts, post, Post, Index, Call, CallNothing, Member, Arrow, Increment, Decrement, Joint, Infix, Choose, Assign, Comma, Links, no_links, link, Sort, OfInfix, OfChoice, OfAssign, OfComma, sort_height, sort_of, begins_post, is_unary, is_primary, takes_operand, after_joint, after_post, sign_of_set, sign_of_prefix, spell_joint, spell_posts, spell_post, spell_texts, Joins, FitsJoint, FitsPosts, FitsPost, Typed, typed, Specs, no_specs, spec, Spec, Keyword, Members, member, Decl, decl, Core, Absent, Id, Group, Suffixes, no_suffixes, Suffix, OpenArray, Array, Function, Params, NoParams, OnlyVoid, Some_params, More, no_more, param, height_of, sign_of, after, after_typed, after_specs, after_spec, after_core, after_suffix, after_param, is_base, or, spell, spell_links, spell_typed, spell_specs, spell_spec, spell_members, spell_decl, spell_core, spell_suffixes, spell_suffix, spell_params, spell_more, spell_marks, ArePointers, Grouped, IsAParam, Fits, FitsLinks, FitsTyped, FitsSpecs, FitsSpec, FitsMembers, FitsDecl, FitsCore, FitsSuffixes, FitsSuffix, FitsParams, FitsMore, Within, WithinDecl, WithinTyped, Decls, another, Item, Plain, Valued, Items, after_decls, after_decl, after_item, spell_decls, spell_item, spell_items, spell_tag, spell_comma, FitsDecls, FitsItem, FitsItems}
 use Rattle.c_read.specs.Reading.{◌>>=◌, Reader, Inner, choose, closed_at, squared_at, braced_at, semi_at, comma_at, ends_braces, ends_list, void_at, run_at, marks_at, colon_at, may_join, picked, link_at, prefix_of, texts_at, paren_at, primary_at, index_at, arguments_at, call_at, post_at, posts_at, with_posts, postfix_at, prefix_at, conversion_at, size_of_at, type_size_at, size_at, cast_at, choice_at, joint_at, links_at, chain, level_at, begins_spec, members_at, struct_at, enum_at, spec_at, specs_at, opens_list, takes_name, needs_name, group_at, core_at, more_at, list_at, params_at, bound_at, array_at, function_at, suffixes_at, decl_at, typed_at, inner, decls_at, struct_body_at, valued_at, item_at, next_item, items_at, last_comma, enum_body_at}
 
 -- ---- steps

@@ -1,4 +1,4 @@
--- The grammar: what a tree is, its spelling, what it declares, and which trees fit.
+-- The grammar of expressions, specifiers and declarators (ISO/IEC 9899:2011, 6.5 and 6.7): what a tree is, its spelling, what it declares, and which trees fit.
 use Rattle.std.specs.Prelude.{◌≡◌, ℕ, zero, suc, ◌<◌, List, [], ◌∷◌, ◌++◌, Option, Some, None, Bool, true, false, ◌==◌, if◌then◌else◌}
 use Rattle.c_tree.specs.declared.operator.SpecifierWord.{SpecifierWord}
 use Rattle.c_tree.specs.declared.operator.SpecifierWord.TheVariants as word
