@@ -1,0 +1,3 @@
+pub mod Sound
+pub mod Again
+pub mod OneTree
