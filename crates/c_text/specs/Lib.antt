@@ -1,0 +1,6 @@
+pub mod Classes
+pub mod Characters
+pub mod Rests
+pub mod Marks
+pub mod Pieces
+pub mod Source
