@@ -1,5 +1,5 @@
 -- One piece after the other.
-use Rattle.std.proofs.Common.{◌≡◌, ℕ, zero, suc, ◌+◌, ◌-◌, ◌<◌, ◌≤◌, Bool, true, false, ◌==◌, ◌&&◌, ◌||◌, not, if◌then◌else◌, List, [], ◌∷◌, ◌++◌, length, drop, Option, Some, None, refl, sym, ap, ◌∙◌, subst, arith, append_assoc, length-drop}
+use Rattle.std.proofs.Common.{◌≡◌, ℕ, zero, suc, ◌+◌, ◌-◌, ◌≤◌, Bool, true, false, ◌==◌, ◌&&◌, ◌||◌, not, if◌then◌else◌, List, [], ◌∷◌, ◌++◌, length, Option, Some, None, refl, sym, ap, ◌∙◌, subst, arith, append_assoc, length-drop}
 use Rattle.std.proofs.lemmas.List.{append-nil}
 use Rattle.std.specs.Option.{is_some}
 use Rattle.c_text.specs.declared.kind.Kind.{Kind}
@@ -10,7 +10,7 @@ use Rattle.c_text.specs.Characters.{Character}
 use Rattle.c_text.specs.Rests.{choose, byte_at, digit_is_next, is_exponent, is_in_number, word_rest, number_rest, line_rest, comment_rest, literal_rest}
 use Rattle.c_text.specs.Marks.{mark_length}
 use Rattle.c_text.specs.Pieces.{Found, quote_of, quote_at, eight_at, prefixed_at, literal_of, literal_at, word_at, mark_at, comment_of, slash_at, dot_at, piece_of, piece_at}
-use Rattle.c_text.specs.Source.{Cut, spelled_by, cut_of, cuts, given, is_white, lexemes_from, text_of, lexemes_in}
+use Rattle.c_text.specs.Source.{Cut, spelled_by, cuts, given, is_white, lexemes_from, text_of, lexemes_in}
 
 -- ---- what stands behind is no longer
 
@@ -213,11 +213,11 @@ goes_on lexemes now total after_blank white text x spelled some e s n w go = ste
       steps = k;
       enough = omega (arith, next-shorter t x some e, go.enough, z);
       so = ap (λ (l : List Lexeme). l ++ lexemes_from white (cuts k x.1)) n
-        ∙ append_assoc lexemes (given x.0 after_blank spelled) (lexemes_from white (cuts k x.1))
-        ∙ ap (λ (l : List Lexeme). lexemes ++ l)
-        (ap (λ (d : Text). given x.0 after_blank d ++ lexemes_from white (cuts k x.1)) s ∙ ap (λ (v : Bool). given x.0 after_blank (spelled_by t x.1) ++ lexemes_from v (cuts k x.1)) w
-         ∙ ap (lexemes_from after_blank) (sym (one_cut x k t some e) ∙ ap (λ (j : ℕ). cuts j t) (sym z)))
-        ∙ go.so;
+          ∙ append_assoc lexemes (given x.0 after_blank spelled) (lexemes_from white (cuts k x.1))
+          ∙ ap (λ (l : List Lexeme). lexemes ++ l)
+          (ap (λ (d : Text). given x.0 after_blank d ++ lexemes_from white (cuts k x.1)) s ∙ ap (λ (v : Bool). given x.0 after_blank (spelled_by t x.1) ++ lexemes_from v (cuts k x.1)) w
+          ∙ ap (lexemes_from after_blank) (sym (one_cut x k t some e) ∙ ap (λ (j : ℕ). cuts j t) (sym z)))
+          ∙ go.so;
     }
 
 pub goes_from : (bytes : List ℕ) (text : Text) → text ≡ text_of bytes → Goes [] false text (lexemes_in bytes)

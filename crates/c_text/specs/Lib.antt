@@ -4,3 +4,5 @@ pub mod Rests
 pub mod Marks
 pub mod Pieces
 pub mod Source
+pub mod Grammar
+pub mod Lexing

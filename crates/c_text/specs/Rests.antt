@@ -1,6 +1,6 @@
 -- What stands behind words, numbers, literals and comments.
 use Rattle.std.specs.Prelude.{ℕ, List, [], ◌∷◌, Option, Some, None, Bool, true, false, ◌==◌, ◌&&◌, ◌||◌, not, if◌then◌else◌}
-use Rattle.c_text.specs.Classes.{Class, Letter, Digit, Dot, is_letter, is_digit, is_alphanumeric, class_of}
+use Rattle.c_text.specs.Classes.{Class, Letter, Digit, Dot, is_digit, is_alphanumeric, class_of}
 use Rattle.c_text.specs.Characters.{Character}
 
 abbrev pub choose : {A B : Type 0} → Option A → B → (A → B) → B

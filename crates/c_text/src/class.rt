@@ -32,9 +32,8 @@ pub fn class_of(byte: u8) -> Class
         b'"' | b'\'' => Class::Quote,
         b'/' => Class::Slash,
         b'.' => Class::Dot,
-        b'!' | b'#' | b'%'..=b'&' | b'('..=b'-' | b':'..=b'?' | b'[' | b']'..=b'^' | b'{'..=b'~' => {
-            Class::Mark
-        }
+        b'!' | b'#' | b'%'..=b'&' | b'('..=b'-' | b':'..=b'?' | b'[' | b']'..=b'^' | b'{'..=b'~' =>
+            { Class::Mark }
         b'\\' => Class::Backslash,
         _ => Class::Foreign,
     }

@@ -1,7 +1,8 @@
 //! From a whole text to its pieces.
 
 ghost use Rattle.std.specs.Prelude.{◌≡◌, ◌<◌, ◌++◌, ◌^◌, length, map, IfOk, OnOk};
-ghost use Rattle.c_text.specs.Source.{given, lexemes_in};
+ghost use Rattle.c_text.specs.Source.{given};
+ghost use Rattle.c_text.specs.Lexing.{Lexes};
 
 use crate::character::{Character, joined};
 use crate::kind::{Kind, Lexeme};
@@ -12,11 +13,7 @@ use std::alloc::{AllocError, Global};
 fn spelling(alloc: Global, text: &[Character]) -> Result<List<u8>, AllocError>
     ensures { IfOk result (λ l. l ≡ map (λ c. c.byte) text.now) }
 {
-    Ok(List::from_vec(
-        text.iter()
-            .map(|character| character.byte)
-            .collect(alloc)?,
-    ))
+    Ok(List::from_vec(text.iter().map(|character| character.byte).collect(alloc)?))
 }
 
 // Puts the lexeme that a piece of this kind is behind the others.
@@ -46,7 +43,7 @@ fn give(
 /// ends, and what breaks `P01` or `P02`. It takes time in proportion to the length of the text.
 pub fn lexemes(alloc: Global, bytes: &[u8]) -> Result<Vec<Lexeme>, AllocError>
     requires { length bytes.now < 2 ^ 31 }
-    ensures { IfOk result (λ v. v.items ≡ lexemes_in bytes.now) }
+    ensures { IfOk result (λ v. Lexes bytes.now v.items) }
 {
     let text = joined(alloc, bytes)?;
     let mut lexemes = Vec::new(alloc);

@@ -7,11 +7,19 @@
 mod character;
 mod class;
 mod kind;
+mod laws;
 mod lexer;
 mod marks;
 mod piece;
 mod rests;
 
-pub use character::{Character, Point};
+pub use character::Point;
 pub use kind::{Kind, Lexeme};
+pub use laws::{
+    each_text_consists_of_pieces, one_list_of_lexemes, pieces_are_those_read,
+    punctuators_are_longest,
+};
 pub use lexer::lexemes;
+
+#[cfg(test)]
+mod tests;

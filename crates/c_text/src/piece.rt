@@ -43,7 +43,13 @@ fn prefixed_at(first: u8, text: &[Character]) -> Option<(u8, &[Character])>
             None => None,
             Some(behind) => match byte_at(b'"', behind) {
                 None => None,
-                Some(rest) => { if first == b'u' { Some((b'"', rest)) } else { None } }
+                Some(rest) => {
+                    if first == b'u' {
+                        Some((b'"', rest))
+                    } else {
+                        None
+                    }
+                }
             },
         },
     }

@@ -13,7 +13,13 @@ pub fn byte_at(wanted: u8, text: &[Character]) -> Option<&[Character]>
 {
     match text.split_first() {
         None => None,
-        Some((first, rest)) => { if first.byte == wanted { Some(rest) } else { None } }
+        Some((first, rest)) => {
+            if first.byte == wanted {
+                Some(rest)
+            } else {
+                None
+            }
+        }
     }
 }
 

@@ -1,4 +1,4 @@
-use Rattle.std.proofs.Common.{◌≡◌, ◌++◌, ap, sym, ◌∙◌, length, arith}
+use Rattle.std.proofs.Common.{◌++◌, ap, sym, ◌∙◌, length, arith}
 use Rattle.c_text.proofs.Steps.{one_more, passes, drops, ends, gives, none_left, all_done}
 use Rattle.c_text.proofs.character.characters.Goals as goal
 
@@ -28,7 +28,7 @@ loop-first-preserved-in_ok-push c =
     let len = ap length is in
     record {
       so = one_more c.loop-first.characters.items c.push.new.self.items _ _ c.in_ok-push.ensures.items
-        ∙ ap (λ l. c.loop-first.characters.items ++ l) (sym (ends c.loop-first.line c.loop-first.column _ c.loop-first.rest.now c.in-Some.tail.now is c.loop-first.skipped c.if-skipped-gt0.false c.if-is_dropped.ensures c.if-first-eq10.true)) ∙ c.loop-first.invariant.so;
+          ∙ ap (λ l. c.loop-first.characters.items ++ l) (sym (ends c.loop-first.line c.loop-first.column _ c.loop-first.rest.now c.in-Some.tail.now is c.loop-first.skipped c.if-skipped-gt0.false c.if-is_dropped.ensures c.if-first-eq10.true)) ∙ c.loop-first.invariant.so;
       line = omega arith;
       column = omega arith;
     }
@@ -39,7 +39,7 @@ loop-first-preserved c =
     let len = ap length is in
     record {
       so = one_more c.loop-first.characters.items c.push-else-first-eq10.new.self.items _ _ c.in_ok-push-2.ensures.items
-        ∙ ap (λ l. c.loop-first.characters.items ++ l) (sym (gives c.loop-first.line c.loop-first.column _ c.loop-first.rest.now c.in-Some.tail.now is c.loop-first.skipped c.written_at-byte.result c.if-skipped-gt0.false c.if-is_dropped.ensures c.if-first-eq10.false c.written_at-byte.ensures)) ∙ c.loop-first.invariant.so;
+          ∙ ap (λ l. c.loop-first.characters.items ++ l) (sym (gives c.loop-first.line c.loop-first.column _ c.loop-first.rest.now c.in-Some.tail.now is c.loop-first.skipped c.written_at-byte.result c.if-skipped-gt0.false c.if-is_dropped.ensures c.if-first-eq10.false c.written_at-byte.ensures)) ∙ c.loop-first.invariant.so;
       line = omega arith;
       column = omega arith;
     }

@@ -1,4 +1,4 @@
-use Rattle.std.proofs.Common.{◌≡◌, ◌++◌, ap, sym, ◌∙◌}
+use Rattle.std.proofs.Common.{◌++◌, ap, sym, ◌∙◌}
 use Rattle.c_text.proofs.Steps.{one_more, passes_end, begins_splice, keeps, none_joined, all_done}
 use Rattle.c_text.proofs.character.joined.Goals as goal
 

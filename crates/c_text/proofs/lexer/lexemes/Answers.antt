@@ -1,8 +1,9 @@
-use Rattle.std.proofs.Common.{◌≡◌, ◌+◌, ◌≤◌, ◌∙◌, sym, false, List, length, ap, arith, subst}
+use Rattle.std.proofs.Common.{◌≡◌, ◌≤◌, ◌∙◌, sym, false, List, length, arith, subst}
 use Rattle.std.proofs.lemmas.Bool.Decides.{nat_tests}
 use Rattle.c_text.specs.declared.kind.Lexeme.{Lexeme}
 use Rattle.c_text.specs.Source.{lexemes_in}
 use Rattle.c_text.proofs.Cuts.{Goes, next-shorter, goes_on, goes_from, goes_out, white_is}
+use Rattle.c_text.proofs.WholeLaws.{lexes}
 use Rattle.c_text.proofs.lexer.lexemes.Goals as goal
 
 pub overflow_sub-rest : goal.overflow_sub-rest
@@ -24,7 +25,7 @@ pieces-preserved c =
 pub returns : goal.returns
 returns c =
     let none : length c.pieces.rest.now ≡ 0 = grind (arith, nat_tests, c.pieces-test.ensures) in
-    goes_out c.pieces.lexemes.items (lexemes_in c.args.bytes.now) c.pieces.after_blank c.pieces.rest.now none c.pieces.invariant
+    lexes c.args.bytes.now c.pieces.lexemes.items (goes_out c.pieces.lexemes.items (lexemes_in c.args.bytes.now) c.pieces.after_blank c.pieces.rest.now none c.pieces.invariant)
 
 pub pieces-init : goal.pieces-init
 pieces-init c =

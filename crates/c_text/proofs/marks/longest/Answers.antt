@@ -1,4 +1,4 @@
-use Rattle.std.proofs.Common.{◌≡◌, ◌<◌, ◌∙◌, sym, ap, map, max, length, List, ℕ, [], arith}
+use Rattle.std.proofs.Common.{◌<◌, ◌∙◌, sym, ap, map, max, length, List, ℕ, [], arith}
 use Rattle.std.proofs.lemmas.List.{length-map, get_or-map}
 use Rattle.c_text.specs.Marks.{length_at}
 use Rattle.c_text.proofs.Best.{looked}

@@ -1,4 +1,4 @@
-use Rattle.std.proofs.Common.{◌≡◌, length, max, map, drop}
+use Rattle.std.proofs.Common.{◌≡◌, max, map, drop}
 use Rattle.c_text.specs.Marks.{longest}
 use Rattle.c_text.proofs.marks.longest.Given as goal
 

@@ -1,5 +1,5 @@
-use Rattle.std.proofs.Common.{◌≡◌, ◌≤◌, ◌∙◌, subst, sym, ℕ, length, refl}
-use Rattle.c_text.specs.Marks.{punctuators, longest, mark_length}
+use Rattle.std.proofs.Common.{◌≤◌, subst, sym, ℕ, length}
+use Rattle.c_text.specs.Marks.{mark_length}
 use Rattle.c_text.proofs.Best.{longest_within}
 use Rattle.c_text.proofs.marks.mark_length.Goals as goal
 
