@@ -5,7 +5,7 @@ use Rattle.std.proofs.Math.ListN.{set, length-set}
 use Rattle.std.proofs.lemmas.Bool.{eqb-true, eq-eqb}
 use Rattle.c_macros.specs.declared.token.Token.{Token}
 use Rattle.c_macros.specs.declared.token.Token.TheVariants.{Name, Other}
-use Rattle.c_macros.specs.declared.token.Place.{Place}
+use Rattle.jf_base.specs.declared.place.Place.{Place}
 use Rattle.c_macros.specs.declared.token.Spanned.{Spanned}
 use Rattle.c_macros.specs.declared.expander.Frame.{Frame}
 use Rattle.c_macros.specs.declared.quick.Level.{Level}

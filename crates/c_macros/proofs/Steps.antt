@@ -4,7 +4,7 @@ use Rattle.std.proofs.Math.ListN.{set}
 use Rattle.std.proofs.lemmas.List.{map-append, append-nil, length-map, reverse-append}
 use Rattle.c_macros.specs.declared.token.Token.{Token}
 use Rattle.c_macros.specs.declared.token.Token.TheVariants.{Name}
-use Rattle.c_macros.specs.declared.token.Place.{Place}
+use Rattle.jf_base.specs.declared.place.Place.{Place}
 use Rattle.c_macros.specs.declared.token.Spanned.{Spanned}
 use Rattle.c_macros.specs.declared.expander.Frame.{Frame}
 use Rattle.c_macros.specs.Expansion.{Bodies, Macros, body_of, without, expansion, swaps_of, cost, all_at}

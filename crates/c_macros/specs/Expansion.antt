@@ -1,8 +1,8 @@
--- What a list of tokens expands to.
+-- What a list of tokens expands to (ISO/IEC 9899:2011, 6.10.3 and 6.10.3.4).
 use Rattle.std.specs.Prelude.{◌≡◌, ℕ, zero, suc, ◌+◌, List, [], ◌∷◌, ◌++◌, map, Option, Some, None, Bool, false, if◌then◌else◌, slice_index_or, slice_set}
 use Rattle.c_macros.specs.declared.token.Token.{Token}
 use Rattle.c_macros.specs.declared.token.Token.TheVariants.{Name, Other}
-use Rattle.c_macros.specs.declared.token.Place.{Place}
+use Rattle.jf_base.specs.declared.place.Place.{Place}
 use Rattle.c_macros.specs.declared.token.Spanned.{Spanned}
 
 -- The bodies of the names, and which names are macros here.

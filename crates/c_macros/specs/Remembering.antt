@@ -2,7 +2,7 @@
 use Rattle.std.specs.Prelude.{◌≡◌, ℕ, ◌+◌, ◌<◌, ◌≤◌, List, [], ◌∷◌, ◌++◌, map, length, take, Bool, true, false, if◌then◌else◌, slice_index_or, slice_set}
 use Rattle.c_macros.specs.declared.token.Token.{Token}
 use Rattle.c_macros.specs.declared.token.Token.TheVariants.{Name, Other}
-use Rattle.c_macros.specs.declared.token.Place.{Place}
+use Rattle.jf_base.specs.declared.place.Place.{Place}
 use Rattle.c_macros.specs.declared.token.Spanned.{Spanned}
 use Rattle.c_macros.specs.declared.expander.Frame.{Frame}
 use Rattle.c_macros.specs.declared.quick.Level.{Level}

@@ -2,7 +2,7 @@
 use Rattle.std.specs.Prelude.{◌≡◌, ℕ, ◌+◌, ◌≤◌, ◌<◌, List, [], ◌∷◌, ◌++◌, map, length, drop, Bool, true, false, slice_index_or, slice_set, Vec}
 use Rattle.std.specs.declared.alloc.Global.{Global}
 use Rattle.c_macros.specs.declared.token.Token.{Token}
-use Rattle.c_macros.specs.declared.token.Place.{Place}
+use Rattle.jf_base.specs.declared.place.Place.{Place}
 use Rattle.c_macros.specs.declared.token.Spanned.{Spanned}
 use Rattle.c_macros.specs.declared.expander.Frame.{Frame}
 use Rattle.c_macros.specs.Expansion.{Bodies, Macros, expansion, swaps_of, cost, all_at}

@@ -6,7 +6,8 @@ ghost use Rattle.c_macros.specs.Stack.{Steps, Expanded, texts};
 ghost use Rattle.c_macros.specs.declared.token.Token.{Token};
 
 use crate::table::{is_up, set};
-use crate::token::{Place, Spanned, Token};
+use crate::token::{Spanned, Token};
+use jf_base::Place;
 use std::alloc::{AllocError, Global};
 
 // A macro that is being replaced, and how many tokens of its body were taken.
@@ -73,7 +74,8 @@ fn step(
     }
 }
 
-/// Puts out what a token expands to, or answers false where that is more than there is room for.
+/// Puts out what a token expands to, or answers false where that is more than there is room for. Each token that is put out has the place that is
+/// given. It takes as many steps as macros are replaced and tokens are put out.
 pub fn expand(
     alloc: Global,
     bodies: &[Vec<Token>],

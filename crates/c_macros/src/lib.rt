@@ -1,4 +1,7 @@
-//! Object macros: what tokens expand to.
+//! Object macros of C: what tokens expand to (ISO/IEC 9899:2011, 6.10.3 and 6.10.3.4).
+//!
+//! Names are numbers: a table of bodies has the body of each name, and a table of flags says which names are macros. A macro's body is replaced where
+//! that macro isn't one.
 #![tactic(auto)]
 
 mod expander;
@@ -12,8 +15,8 @@ ghost use Rattle.c_macros.specs.declared.token.Token.{Token};
 ghost use Rattle.c_macros.specs.declared.token.Token.TheVariants.{Name, Other};
 
 pub use expander::expand;
-pub use quick::expand_quick;
-pub use token::{Place, Spanned, Token};
+pub use quick::{expand_quick, nothing_remembered};
+pub use token::{Spanned, Token};
 
 /// Each list of tokens expands to a list: expansion ends.
 pub fn expansion_is_there()
@@ -45,3 +48,6 @@ pub fn two_names()
     ensures { let a = Name 0 in let b = Name 1 in let x = Other 7 in
         expansion ((b ∷ []) ∷ (a ∷ []) ∷ []) (true ∷ true ∷ []) (a ∷ x ∷ b ∷ []) ≡ a ∷ x ∷ b ∷ [] }
 {}
+
+#[cfg(test)]
+mod tests;

@@ -1,12 +1,14 @@
 //! Expanding a token, where macros that expand to nothing are remembered.
 
 ghost use Rattle.std.specs.Prelude.{◌≡◌, ◌≤◌, length, reverse, OnOk, IfOk, slice_set, if◌then◌else◌, true, ◌+◌, IsTrue};
+ghost use Rattle.c_macros.specs.Expansion.{Bodies, Macros};
 ghost use Rattle.c_macros.specs.Stack.{Expanded, texts};
 ghost use Rattle.c_macros.specs.Remembering.{kind_at, Takes, wet, Remembers};
 
 use crate::expander::token_at;
 use crate::table::{is_up, set};
-use crate::token::{Place, Spanned, Token};
+use crate::token::{Spanned, Token};
+use jf_base::Place;
 use std::alloc::{AllocError, Global};
 
 // A macro that is being replaced, how many tokens of its body were taken, and whether they have given nothing so far.
@@ -124,7 +126,8 @@ fn take(
     }
 }
 
-/// As `expand`, with the macros that are known to give nothing.
+/// As `expand`, where macros that were seen to give nothing are passed over, so that no
+/// replacement that gives nothing is made twice. What is remembered holds until a macro is defined or undefined.
 pub fn expand_quick(
     alloc: Global,
     bodies: &[Vec<Token>],
@@ -171,4 +174,16 @@ pub fn expand_quick(
         }
     }
     Ok(true)
+}
+
+/// What is remembered of so many names before any was replaced: nothing.
+pub fn nothing_remembered(alloc: Global, names: usize) -> Result<Vec<bool>, AllocError>
+    ensures length { IfOk result (λ v. length v.items ≡ names) }
+    ensures remembers { IfOk result (λ v. (bodies : Bodies) (on : Macros) → length on ≤ names → Remembers bodies on v.items) }
+{
+    let mut void = Vec::new(alloc);
+    for _name in 0..names {
+        void.push(false)?;
+    }
+    Ok(void)
 }
