@@ -1,0 +1,74 @@
+use crate::expander::expand;
+use crate::token::{Spanned, Token};
+use jf_base::Place;
+use std::alloc::{AllocError, Global};
+use std::test::Fail;
+
+const PLACE: Place = Place {
+    file: 2,
+    line: 3,
+    column: 5,
+};
+
+// What a token expands to: names as letters, other tokens as digits; or `-` where that is more than three tokens.
+fn expanded(
+    alloc: Global,
+    bodies: &[Vec<Token>],
+    on: &mut [bool],
+    token: Token,
+) -> Result<String, AllocError> {
+    let mut tokens: Vec<Spanned> = Vec::new(alloc);
+    if !expand(alloc, bodies, on, &mut tokens, 3, token, PLACE)? {
+        return Ok("-".to_string(alloc)?);
+    }
+    let mut out = String::new(alloc);
+    for spanned in tokens.as_slice() {
+        match spanned.token {
+            Token::Name(name) => out.push_str(format!(in alloc; "n{name}")?.as_str())?,
+            Token::Other(other) => out.push_str(format!(in alloc; "{other}")?.as_str())?,
+        }
+    }
+    Ok(out)
+}
+
+#[test]
+fn two_macros_name_one_another(rt: HostRuntime) -> Result<(), Fail> {
+    let alloc = rt.alloc();
+    let mut bodies = Vec::new(alloc);
+    bodies.push([Token::Name(1), Token::Other(7)].to_vec(alloc)?)?;
+    bodies.push([Token::Name(0), Token::Other(8)].to_vec(alloc)?)?;
+    let mut on = [true, true];
+    assert_eq!(rt;
+        expanded(alloc, bodies.as_slice(), &mut on, Token::Name(0))?.as_str(),
+        "n087"
+    );
+    assert_eq!(rt;
+        expanded(alloc, bodies.as_slice(), &mut on, Token::Name(1))?.as_str(),
+        "n178"
+    );
+    assert_eq!(rt;
+        expanded(alloc, bodies.as_slice(), &mut on, Token::Name(2))?.as_str(),
+        "n2"
+    );
+    Ok(())
+}
+
+#[test]
+fn an_expansion_has_room_or_not(rt: HostRuntime) -> Result<(), Fail> {
+    let alloc = rt.alloc();
+    let mut bodies = Vec::new(alloc);
+    bodies.push([Token::Other(7), Token::Other(7)].to_vec(alloc)?)?;
+    bodies.push([Token::Name(0), Token::Name(0)].to_vec(alloc)?)?;
+    bodies.push([Token::Name(0), Token::Other(9)].to_vec(alloc)?)?;
+    let mut on = [true, true, true];
+    assert_eq!(rt;
+        expanded(alloc, bodies.as_slice(), &mut on, Token::Name(1))?.as_str(),
+        "-"
+    );
+    let mut on = [true, true, true];
+    assert_eq!(rt;
+        expanded(alloc, bodies.as_slice(), &mut on, Token::Name(2))?.as_str(),
+        "779"
+    );
+    Ok(())
+}

@@ -1,0 +1,6 @@
+pub mod Steps
+pub mod Best
+pub mod Cuts
+pub mod Runs
+pub mod PieceLaws
+pub mod WholeLaws

@@ -1,0 +1,9 @@
+use Rattle.std.proofs.Common.{◌≡◌, length}
+use Rattle.c_text.specs.Rests.{comment_rest}
+use Rattle.c_text.proofs.rests.comment_rest.Given as goal
+
+abbrev pub invariant-loop-first : goal.invariant-loop-first
+invariant-loop-first l = comment_rest l.rest ≡ comment_rest l.text
+
+abbrev pub decreases-loop-first : goal.decreases-loop-first
+decreases-loop-first l = length l.rest
