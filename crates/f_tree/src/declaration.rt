@@ -169,7 +169,9 @@ pub enum Dimension {
         place: Place,
     },
     /// `..`
-    AssumedRank { place: Place },
+    AssumedRank {
+        place: Place,
+    },
 }
 
 /// A name that is declared.

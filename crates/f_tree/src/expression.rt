@@ -152,9 +152,14 @@ pub enum TypeSpec {
         parameters: Option<List<CharacterParameter>>,
     },
     /// `type(name)`
-    Derived { place: Place, name: Name },
+    Derived {
+        place: Place,
+        name: Name,
+    },
     /// `type(*)`
-    Assumed { place: Place },
+    Assumed {
+        place: Place,
+    },
 }
 
 /// `(kind = value)`, where `kind =` may be left out (ISO/IEC 1539-1:2018, 7.4.3.1).
@@ -169,8 +174,17 @@ pub struct KindSelector {
 #[cycle(expression)]
 #[derive(Drop)]
 pub enum CharacterParameter {
-    Length { word: Option<Place>, value: Expression },
+    Length {
+        word: Option<Place>,
+        value: Expression,
+    },
     /// `*`
-    AssumedLength { word: Option<Place>, place: Place },
-    Kind { word: Option<Place>, value: Expression },
+    AssumedLength {
+        word: Option<Place>,
+        place: Place,
+    },
+    Kind {
+        word: Option<Place>,
+        value: Expression,
+    },
 }

@@ -19,11 +19,14 @@ pub use declaration::{
     Specification, TypeAttribute, Use, UseList, Variables,
 };
 pub use expression::{
-    Argument, CharacterParameter, Expression, KindSelector, Level, Link, Part, Range, Reference, Sign,
-    TypeSpec,
+    Argument, CharacterParameter, Expression, KindSelector, Level, Link, Part, Range, Reference,
+    Sign, TypeSpec,
 };
-pub use lexeme::{Lexeme, Lexemes};
+pub use lexeme::{Lexeme, Lexemes, copy_bytes};
 pub use name::Name;
+pub use spell_expression::{
+    put_arguments, put_expression, put_expressions, put_reference, put_type,
+};
 pub use statement::{
     Action, Case, CaseChoice, CaseRange, DoConstruct, Else, ElseIf, IfConstruct, LoopControl,
     RankCase, RankChoice, SelectCase, SelectRank, Statement,

@@ -40,9 +40,15 @@ pub enum Action {
         name: Name,
         arguments: Option<List<Argument>>,
     },
-    Exit { place: Place },
-    Cycle { place: Place },
-    Return { place: Place },
+    Exit {
+        place: Place,
+    },
+    Cycle {
+        place: Place,
+    },
+    Return {
+        place: Place,
+    },
     Stop {
         place: Place,
         is_error: bool,
@@ -177,7 +183,10 @@ pub enum CaseRange {
         upper: Option<Expression>,
     },
     /// `: upper`
-    UpTo { place: Place, upper: Expression },
+    UpTo {
+        place: Place,
+        upper: Expression,
+    },
 }
 
 /// A SELECT RANK construct (ISO/IEC 1539-1:2018, 11.1.10).
