@@ -33,3 +33,6 @@ listed-step f xs left i x rest e within is = subst (λ n. listed (map f (take i 
 
 pub percents-step : {A : Type 0} (f : A → Front) (xs : List A) (left i : ℕ) (x : A) (rest : List Lexeme) → i + 1 ≡ left → i < length xs → get_or xs i x ≡ x → behind_percents (map f (take i xs)) (mark_of Percent (f x rest)) ≡ behind_percents (map f (take left xs)) rest
 percents-step f xs left i x rest e within is = subst (λ n. behind_percents (map f (take i xs)) (mark_of Percent (f x rest)) ≡ behind_percents (map f (take n xs)) rest) e (sym (ap (λ ys. behind_percents (map f ys) rest) (one_more xs i x within is) ∙ percents-last f (take i xs) x rest))
+
+pub commas-step : {A : Type 0} (f : A → Front) (xs : List A) (left i : ℕ) (x : A) (rest : List Lexeme) → i + 1 ≡ left → i < length xs → get_or xs i x ≡ x → behind_commas (map f (take i xs)) (mark_of Comma (f x rest)) ≡ behind_commas (map f (take left xs)) rest
+commas-step f xs left i x rest e within is = subst (λ n. behind_commas (map f (take i xs)) (mark_of Comma (f x rest)) ≡ behind_commas (map f (take n xs)) rest) e (sym (ap (λ ys. behind_commas (map f ys) rest) (one_more xs i x within is) ∙ commas-last f (take i xs) x rest))

@@ -1,7 +1,6 @@
 -- The tokens of expressions, references and types (ISO/IEC 1539-1:2018, 7.2, 9 and 10.1).
-use Rattle.std.specs.Prelude.{ℕ, List, [], ◌∷◌, Option, Some, None, Bool, true, false, codes, map}
-use Rattle.jf_base.specs.declared.place.Place.{Place}
-use Rattle.f_lex.specs.declared.token.Mark.TheVariants.{Open, Close, OpenBracket, CloseBracket, Comma, Percent, Colon, DoubleColon, Star, Assign}
+use Rattle.std.specs.Prelude.{List, [], ◌∷◌, Option, Some, None, codes}
+use Rattle.f_lex.specs.declared.token.Mark.TheVariants.{Open, Close, OpenBracket, CloseBracket, Percent, Colon, DoubleColon, Star}
 use Rattle.f_lex.specs.declared.token.Token.TheVariants as token
 use Rattle.f_tree.specs.declared.expression.Expression.{Expression}
 use Rattle.f_tree.specs.declared.expression.Argument.TheOpen as open_
@@ -16,7 +15,7 @@ use Rattle.f_tree.specs.declared.expression.TypeSpec.{TypeSpec}
 use Rattle.f_tree.specs.declared.expression.KindSelector.{KindSelector}
 use Rattle.f_tree.specs.declared.expression.CharacterParameter.{CharacterParameter}
 use Rattle.f_tree.specs.declared.expression.Sign.{Sign}
-use Rattle.f_tree.specs.Lexemes.{Front, lexeme, mark_of, placed_mark, word_of, placed_word, name_of, when, optional, each, behind_commas, listed, in_parentheses, optional_list, key_of, placed_key, name_key}
+use Rattle.f_tree.specs.Lexemes.{Front, lexeme, mark_of, placed_mark, placed_word, name_of, when, optional, each, listed, in_parentheses, optional_list, key_of, placed_key, name_key}
 
 abbrev pub sign_of : Option Sign → Front
 sign_of None rest = rest

@@ -8,6 +8,8 @@ mod declaration;
 mod expression;
 mod lexeme;
 mod name;
+mod spell;
+mod spell_declaration;
 mod spell_expression;
 mod statement;
 mod unit;
@@ -24,6 +26,7 @@ pub use expression::{
 };
 pub use lexeme::{Lexeme, Lexemes, copy_bytes};
 pub use name::Name;
+pub use spell::{Spell, put_behind_commas, put_listed};
 pub use spell_expression::{
     put_arguments, put_expression, put_expressions, put_reference, put_type,
 };
