@@ -18,6 +18,7 @@ use Rattle.f_tree.specs.declared.declaration.Initial.{Initial}
 use Rattle.f_tree.specs.declared.declaration.Initial.TheVariants as initial
 use Rattle.f_tree.specs.declared.declaration.Entity.{Entity}
 use Rattle.f_tree.specs.declared.declaration.Field.{Field}
+use Rattle.f_tree.specs.declared.declaration.Component.{Component}
 use Rattle.f_tree.specs.declared.declaration.Variables.{Variables}
 use Rattle.f_tree.specs.declared.declaration.Rename.{Rename}
 use Rattle.f_tree.specs.declared.declaration.Only.{Only}
@@ -26,13 +27,20 @@ use Rattle.f_tree.specs.declared.declaration.UseList.{UseList}
 use Rattle.f_tree.specs.declared.declaration.UseList.TheVariants as uses
 use Rattle.f_tree.specs.declared.declaration.Use.{Use}
 use Rattle.f_tree.specs.declared.declaration.Import.{Import}
-use Rattle.f_tree.specs.Lexemes.{Front, lexeme, mark_of, placed_mark, word_of, placed_word, name_of, when, each, behind_commas, listed, key_of, if_there}
+use Rattle.f_tree.specs.declared.declaration.EndingForm.{EndingForm}
+use Rattle.f_tree.specs.declared.declaration.EndingForm.TheVariants.{Bare, TwoWords, OneWord}
+use Rattle.f_tree.specs.declared.declaration.Ending.{Ending}
+use Rattle.f_tree.specs.declared.declaration.TypeAttribute.{TypeAttribute}
+use Rattle.f_tree.specs.declared.declaration.TypeAttribute.TheVariants as type_form
+use Rattle.f_tree.specs.declared.declaration.DerivedType.{DerivedType}
+use Rattle.f_tree.specs.declared.declaration.AccessStatement.{AccessStatement}
+use Rattle.f_tree.specs.declared.declaration.PointerAttribute.{PointerAttribute}
+use Rattle.f_tree.specs.declared.declaration.PointerAttribute.TheVariants as pointer_form
+use Rattle.f_tree.specs.declared.declaration.ProcedurePointer.{ProcedurePointer}
+use Rattle.f_tree.specs.declared.declaration.ProcedurePointers.{ProcedurePointers}
+use Rattle.f_tree.specs.Lexemes.{Front, lexeme, mark_of, placed_mark, word_of, placed_word, name_of, when, each, behind_commas, listed, key_of, if_there, statement_end}
 use Rattle.f_tree.specs.Expressions.{expression, type_spec}
 use Rattle.f_tree.specs.declared.expression.Expression.{Expression}
-
--- the end of a statement
-abbrev pub statement_end : Front
-statement_end rest = lexeme token.End None rest
 
 abbrev pub access_word : Access → List ℕ
 access_word Public = codes "public"
@@ -118,3 +126,43 @@ use_statement u rest = placed_word (codes "use") u.place (when u.is_intrinsic co
 
 abbrev pub import_statement : Import → Front
 import_statement i rest = placed_word (codes "import") i.place (colons i.has_colons (listed (map name_of i.names) rest))
+
+abbrev pub ending_words : EndingForm → List ℕ → List ℕ → Place → Front
+ending_words Bare word joined p rest = placed_word (codes "end") p rest
+ending_words TwoWords word joined p rest = placed_word (codes "end") p (word_of word rest)
+ending_words OneWord word joined p rest = placed_word joined p rest
+
+-- an END statement, by its word and by END and its word in one
+abbrev pub ending : List ℕ → List ℕ → Ending → Front
+ending word joined e rest = ending_words (e.form) word joined (e.place) (if_there name_of e.name (statement_end rest))
+
+abbrev pub type_attribute : TypeAttribute → Front
+type_attribute (type_form.Bind p b) rest = placed_word (codes "bind") p (bind_list b rest)
+type_attribute (type_form.Access p a) rest = placed_word (access_word a) p rest
+
+abbrev pub comma_dimension : List Dimension → Front
+comma_dimension ds rest = mark_of Comma (word_of (codes "dimension") (dimensions ds rest))
+
+abbrev pub component : Component → Front
+component c rest = type_spec c.declared (if_there comma_dimension c.dimensions (mark_of DoubleColon (listed (map field c.fields) (statement_end rest))))
+
+abbrev pub derived_type : DerivedType → Front
+derived_type t rest = placed_word (codes "type") t.place (behind_commas (map type_attribute t.attributes) (colons t.has_colons (name_of t.name (statement_end
+    (each (map component t.components) (ending (codes "type") (codes "endtype") t.ending rest))))))
+
+abbrev pub access_statement : AccessStatement → Front
+access_statement a rest = placed_word (access_word a.access) a.place (colons a.has_colons (listed (map name_of a.names) rest))
+
+abbrev pub pointer_attribute : PointerAttribute → Front
+pointer_attribute (pointer_form.Save p) rest = placed_word (codes "save") p rest
+pointer_attribute (pointer_form.Access p a) rest = placed_word (access_word a) p rest
+
+abbrev pub null_target : Place → Front
+null_target p rest = mark_of Arrow (placed_word (codes "null") p (mark_of Open (mark_of Close rest)))
+
+abbrev pub procedure_pointer : ProcedurePointer → Front
+procedure_pointer p rest = name_of p.name (if_there null_target p.null rest)
+
+abbrev pub procedure_pointers : ProcedurePointers → Front
+procedure_pointers p rest = placed_word (codes "procedure") p.place (mark_of Open (name_of p.interface (mark_of Close (mark_of Comma (word_of (codes "pointer")
+    (behind_commas (map pointer_attribute p.attributes) (mark_of DoubleColon (listed (map procedure_pointer p.pointers) rest))))))))

@@ -85,3 +85,7 @@ comma_behind (x ∷ xs) rest = mark_of Comma rest
 abbrev pub if_there : {A : Type 0} → (A → Front) → Option A → Front
 if_there f None rest = rest
 if_there f (Some x) rest = f x rest
+
+-- the end of a statement
+abbrev pub statement_end : Front
+statement_end rest = lexeme token.End None rest

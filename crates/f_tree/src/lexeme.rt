@@ -1,7 +1,7 @@
 //! Tokens in front of a rest.
 
 ghost use Rattle.std.specs.Prelude.{◌≡◌, ◌∷◌, [], reverse, IfOk, OnOk, None, Some};
-ghost use Rattle.f_tree.specs.Lexemes.{mark_of, placed_mark, word_of, placed_word, name_of, lexeme, key_of, placed_key, name_key, when, comma_behind};
+ghost use Rattle.f_tree.specs.Lexemes.{mark_of, placed_mark, word_of, placed_word, name_of, lexeme, key_of, placed_key, name_key, when, comma_behind, statement_end};
 ghost use Rattle.f_lex.specs.declared.token.Token.TheVariants as token;
 
 use crate::name::Name;
@@ -161,6 +161,13 @@ impl Lexemes {
                 Ok(())
             }
         }
+    }
+
+    /// Puts the end of a statement in front.
+    pub fn statement_end(&mut self) -> Result<(), AllocError>
+        ensures { OnOk result (self.new ≡ statement_end self.old) }
+    {
+        self.put(Token::End, None)
     }
 
     /// Puts an integer literal constant in front.

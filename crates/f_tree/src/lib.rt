@@ -10,6 +10,7 @@ mod lexeme;
 mod name;
 mod spell;
 mod spell_declaration;
+mod spell_definition;
 mod spell_expression;
 mod statement;
 mod unit;
@@ -26,7 +27,7 @@ pub use expression::{
 };
 pub use lexeme::{Lexeme, Lexemes, copy_bytes};
 pub use name::Name;
-pub use spell::{Spell, put_behind_commas, put_listed};
+pub use spell::{Spell, put_behind_commas, put_each, put_listed};
 pub use spell_expression::{
     put_arguments, put_expression, put_expressions, put_reference, put_type,
 };

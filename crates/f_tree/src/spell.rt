@@ -56,3 +56,15 @@ pub fn put_behind_commas<T: Spell>(out: &mut Lexemes, items: &[T]) -> Result<(),
     }
     Ok(())
 }
+
+/// Puts a list with nothing between in front.
+pub fn put_each<T: Spell>(out: &mut Lexemes, items: &[T]) -> Result<(), AllocError>
+    ensures { OnOk result (out.new ≡ each (map T.spelled items.now) out.old) }
+{
+    let mut left = items.len();
+    while left > 0 {
+        left -= 1;
+        items[left].put(out)?;
+    }
+    Ok(())
+}

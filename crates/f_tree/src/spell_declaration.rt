@@ -18,7 +18,7 @@ use f_lex::Mark;
 use jf_base::List;
 use std::alloc::AllocError;
 
-fn access_word(access: Access) -> &'static str
+pub fn access_word(access: Access) -> &'static str
     ensures { result.now ≡ access_word access }
 {
     match access {
@@ -66,7 +66,7 @@ fn put_binding_name(out: &mut Lexemes, name: &Option<BindingName>) -> Result<(),
     }
 }
 
-fn put_bind(out: &mut Lexemes, bind: &Bind) -> Result<(), AllocError>
+pub fn put_bind(out: &mut Lexemes, bind: &Bind) -> Result<(), AllocError>
     ensures { OnOk result (out.new ≡ bind_list bind.now out.old) }
 {
     out.mark(Mark::Close)?;
@@ -76,7 +76,7 @@ fn put_bind(out: &mut Lexemes, bind: &Bind) -> Result<(), AllocError>
     Ok(())
 }
 
-fn put_if_there(out: &mut Lexemes, e: &Option<Expression>) -> Result<(), AllocError>
+pub fn put_if_there(out: &mut Lexemes, e: &Option<Expression>) -> Result<(), AllocError>
     ensures { OnOk result (out.new ≡ if_there expression e.now out.old) }
 {
     match e {
@@ -136,7 +136,7 @@ impl Spell for Dimension {
     }
 }
 
-fn put_dimensions(out: &mut Lexemes, all: &[Dimension]) -> Result<(), AllocError>
+pub fn put_dimensions(out: &mut Lexemes, all: &[Dimension]) -> Result<(), AllocError>
     ensures { OnOk result (out.new ≡ dimensions all.now out.old) }
 {
     out.mark(Mark::Close)?;
@@ -238,7 +238,7 @@ impl Spell for Field {
     }
 }
 
-fn put_colons(out: &mut Lexemes, is_there: bool) -> Result<(), AllocError>
+pub fn put_colons(out: &mut Lexemes, is_there: bool) -> Result<(), AllocError>
     ensures { OnOk result (out.new ≡ colons is_there out.old) }
 {
     if is_there {
