@@ -1,0 +1,14 @@
+use Rattle.std.proofs.Common.{◌≡◌, ◌<◌, ◌≤◌, ◌+◌, ◌-◌, get_or, length, sym, ◌∙◌, arith}
+use Rattle.f_tree.proofs.Steps.{listed-step}
+use Rattle.f_tree.proofs.spell.put_listed.Goals as goal
+
+pub loop-left-preserved : goal.loop-left-preserved
+loop-left-preserved g c =
+    let left = c.loop-left.left in
+    let xs = c.args.items.now in
+    let item = c.index-items-left.result in
+    let one : left - 1 + 1 ≡ left = omega arith in
+    let bound = c.loop-left.invariant.within in
+    let within : left - 1 < length xs = omega arith in
+    let here : get_or xs (left - 1) item ≡ item = sym c.index-items-left.is in
+    record { within = omega arith; so_far = rw (c.in_ok-comma_behind.ensures, c.in_ok-put.ensures) (listed-step g.T.Spell.spelled xs left (left - 1) item c.loop-left.out one within here ∙ c.loop-left.invariant.so_far) }
