@@ -1,0 +1,3 @@
+pub mod Counting
+pub mod Intervals
+pub mod Choosing

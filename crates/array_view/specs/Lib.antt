@@ -1,0 +1,3 @@
+pub mod Subscripts
+pub mod Elements
+pub mod Contiguous

@@ -1,0 +1,13 @@
+//! Arrays as their elements see them: sections as lists of offsets, the first dimension varying fastest, and whether elements lie side by side.
+#![tactic(auto)]
+
+mod axes;
+mod bounds;
+mod offsets;
+mod subscript;
+mod triplet;
+mod view;
+
+pub use axes::{Axes, AxisDim};
+pub use subscript::Sub;
+pub use view::ArrayView;
