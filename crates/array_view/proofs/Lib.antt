@@ -1,3 +1,4 @@
 pub mod Counting
 pub mod Intervals
+pub mod Remainders
 pub mod Choosing

@@ -1,4 +1,4 @@
-ghost use Rattle.std.specs.Prelude.{◌≡◌, ◌≢◌, pos, IsTrue, true, length};
+ghost use Rattle.std.specs.Prelude.{◌≡◌, ◌≢◌, ◌-ℤ◌, int_rem, pos, IsTrue, true, length};
 ghost use Rattle.std.specs.List.{list_all};
 ghost use Rattle.array_view.specs.Subscripts.{is_in_axis, is_open_ended, has_direction, are_designated, subscripts_of, steps_from, triplet_count};
 
@@ -29,18 +29,26 @@ fn has_direction(sub: &Sub) -> bool
     }
 }
 
+/// The last subscript of a triplet that occurs, where one does.
+fn final_subscript(first: i64, last: i64, stride: i64) -> i128
+    requires { stride ≢ pos 0 }
+    ensures { result ≡ last -ℤ int_rem (last -ℤ first) stride }
+{
+    let (first, last) = (i128::from(first), i128::from(last));
+    let step = i128::from(stride.unsigned_abs());
+    last - (last - first) % step
+}
+
 /// Whether the subscripts of a triplet that occur lie in the dimension: the first and the last of them tell it.
 fn triplet_lies_in(dim: &AxisDim, open_ended: bool, first: i64, last: i64, stride: i64) -> bool
     requires { stride ≢ pos 0 }
     ensures { result ≡ list_all (is_in_axis dim.now open_ended) (steps_from first stride (triplet_count first last stride)) }
 {
-    let (first, step) = (i128::from(first), i128::from(stride));
-    if is_past(last, stride, first) {
+    if is_past(last, stride, i128::from(first)) {
         return true;
     }
-    let last = i128::from(last);
-    let final_one = last - (last - first) % step;
-    is_in_axis(dim, open_ended, first) && is_in_axis(dim, open_ended, final_one)
+    let final_one = final_subscript(first, last, stride);
+    is_in_axis(dim, open_ended, i128::from(first)) && is_in_axis(dim, open_ended, final_one)
 }
 
 /// Whether the subscripts that occur lie in the dimension.
