@@ -2,3 +2,4 @@ pub mod Counting
 pub mod Intervals
 pub mod Remainders
 pub mod Choosing
+pub mod Rows

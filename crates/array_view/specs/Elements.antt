@@ -1,5 +1,6 @@
 -- The elements that subscripts designate, the first dimension varying fastest.
 use Rattle.std.specs.Prelude.{ℕ, ℤ, pos, negsuc, ◌+ℤ◌, ◌-ℤ◌, ◌*ℤ◌, List, [], ◌∷◌, map}
+use Rattle.std.specs.Int.{int_wrap, w64}
 use Rattle.std.specs.List.{flat_map}
 use Rattle.array_view.specs.declared.axes.AxisDim.{AxisDim}
 use Rattle.array_view.specs.declared.subscript.Sub.{Sub}
@@ -15,6 +16,14 @@ choices (ks ∷ rest) = flat_map (λ others. map (λ k. k ∷ others) ks) (choic
 abbrev pub element_offset : ℤ → List AxisDim → List ℤ → ℤ
 element_offset base (d ∷ ds) (k ∷ ks) = element_offset base ds ks +ℤ (k -ℤ d.lower) *ℤ d.sm
 element_offset base _ _ = base
+
+-- the offset of an element moved to subscript k of a dimension, in 64 bits
+unfoldable pub moved_in_64_bits : AxisDim → ℤ → ℤ → ℤ
+moved_in_64_bits d offset k = int_wrap w64 (offset +ℤ (k -ℤ d.lower) *ℤ d.sm)
+
+-- for each offset those at the subscripts of a dimension
+abbrev pub rows_in_64_bits : AxisDim → List ℤ → List ℤ → List ℤ
+rows_in_64_bits d ks offsets = flat_map (λ o. map (moved_in_64_bits d o) ks) offsets
 
 -- where the elements at these subscripts begin
 abbrev pub offsets_at : ℤ → List AxisDim → List (List ℤ) → List ℤ

@@ -43,4 +43,5 @@ is_in_axis d open_ended k = le_z d.lower k && (open_ended || lt_z k (d.lower +�
 -- each subscript that occurs is one of its dimension, and each stride has a direction
 abbrev pub are_designated : List AxisDim → List Sub → Bool
 are_designated (d ∷ ds) (s ∷ ss) = has_direction s && list_all (is_in_axis d (is_open_ended d ds)) (subscripts_of s) && are_designated ds ss
-are_designated _ _ = true
+are_designated [] _ = true
+are_designated (d ∷ ds) [] = true

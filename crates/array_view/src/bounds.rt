@@ -74,12 +74,13 @@ fn lies_in(dim: &AxisDim, open_ended: bool, sub: &Sub) -> bool
 pub(crate) fn are_designated(dims: &[AxisDim], subs: &[Sub]) -> bool
     ensures { result ≡ are_designated dims.now subs.now }
 {
-    match (dims, subs) {
-        ([dim, dims @ ..], [sub, subs @ ..]) => {
-            has_direction(sub)
-                && lies_in(dim, is_open_ended(dim, dims), sub)
-                && are_designated(dims, subs)
-        }
-        _ => true,
-    }
+    let [dim, dims @ ..] = dims else {
+        return true;
+    };
+    let [sub, subs @ ..] = subs else {
+        return true;
+    };
+    has_direction(sub)
+        && lies_in(dim, is_open_ended(dim, dims), sub)
+        && are_designated(dims, subs)
 }

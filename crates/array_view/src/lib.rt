@@ -9,5 +9,6 @@ mod triplet;
 mod view;
 
 pub use axes::{Axes, AxisDim};
+pub use offsets::section;
 pub use subscript::Sub;
 pub use view::ArrayView;

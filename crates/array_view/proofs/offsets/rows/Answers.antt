@@ -1,0 +1,18 @@
+use Rattle.std.proofs.Common.{rules, ◌≡◌, ◌≢◌, ◌+ℤ◌, ◌-ℤ◌, ◌*ℤ◌, ◌++◌, [], ◌∷◌, IsTrue, IfOk, OnOk, MatchOption, true, false, length, map, take, get_or, ℕ, ◌+◌, ◌-◌, ◌*◌, ◌<◌, ◌≤◌, ◌%◌, ◌^◌, Bool, List, ℤ, pos, ◌≤ℤ◌, ◌<ℤ◌, FitsSigned, to_z, of_z, w64, refl, sym, ap, ◌∙◌, arith}
+use Rattle.std.specs.Int.{int_wrap, w128}
+use Rattle.std.specs.List.{All, flat_map, list_all}
+use Rattle.std.proofs.lemmas.Int.{ints, to_z-of_z}
+use Rattle.std.proofs.lemmas.List.{take_all}
+use Rattle.array_view.specs.Subscripts.{is_past, are_designated, has_direction, subscripts_of}
+use Rattle.array_view.specs.Elements.{choices, offsets_at, section_offsets, moved_in_64_bits, rows_in_64_bits}
+use Rattle.array_view.proofs.Rows.{row_more, rows_all, rows_more, wrapped_more, wrapped_at, wrapped_fits, choices_empty_at, directed}
+use Rattle.array_view.proofs.Counting.{triplet_count-past, past_as}
+use Rattle.array_view.proofs.offsets.rows.Goals as goal
+
+pub loop-offset-preserved : goal.loop-offset-preserved
+loop-offset-preserved c =
+    let f : FitsSigned w64 (get_or c.args.offsets.now c.loop-offset.offset-index (pos 0)) = search rules in
+    rows_more c.args.dim.now c.args.ks.now c.args.offsets.now c.loop-offset.out.items c.push_row.new.out.items c.loop-offset.offset-index (pos 0) (omega arith) c.loop-offset.invariant (c.in_ok-push_row.ensures ∙ ap (λ (o : ℤ). c.loop-offset.out.items ++ map (moved_in_64_bits c.args.dim.now o) c.args.ks.now) (to_z-of_z w64 (get_or c.args.offsets.now c.loop-offset.offset-index (pos 0)) f))
+
+pub returns : goal.returns
+returns c = rows_all c.args.dim.now c.args.ks.now c.args.offsets.now c.loop-offset.out.items c.loop-offset.offset-index (omega arith) c.loop-offset.invariant
