@@ -3,3 +3,5 @@ pub mod Intervals
 pub mod Remainders
 pub mod Choosing
 pub mod Rows
+pub mod Spreads
+pub mod Packed

@@ -3,12 +3,14 @@
 
 mod axes;
 mod bounds;
+mod contiguous;
 mod offsets;
 mod subscript;
 mod triplet;
 mod view;
 
 pub use axes::{Axes, AxisDim};
+pub use contiguous::is_contiguous;
 pub use offsets::section;
 pub use subscript::Sub;
 pub use view::ArrayView;

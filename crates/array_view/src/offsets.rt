@@ -74,7 +74,7 @@ fn wrapped_offsets(alloc: Global, base: i64, dims: &[AxisDim], subs: &[Sub]) -> 
         unreachable!();
     };
     let offsets = wrapped_offsets(alloc, base, dims, subs)?;
-    rows_at(alloc, offsets.as_slice(), dim, sub)
+    Ok(rows_at(alloc, offsets.as_slice(), dim, sub)?)
 }
 
 fn is_empty(sub: &Sub) -> bool

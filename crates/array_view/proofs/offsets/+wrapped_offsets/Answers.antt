@@ -11,4 +11,4 @@ use Rattle.array_view.proofs.offsets.+wrapped_offsets.Goals as goal
 
 pub returns : goal.returns
 returns t c =
-    let a : ℕ = c.in_ok-offsets.ensures in let b : ℕ = c.rows_at.ensures in ?
+    ?
