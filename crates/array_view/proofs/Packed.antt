@@ -46,13 +46,13 @@ and_right true b h = h
 and_right false b h = absurd (cc)
 
 same_ints : (a b : ℤ) → int_eq a b ≡ true → a ≡ b
-same_ints a b h = ?
+same_ints a b h = grind (arith, ints)
 
 self_int : (a : ℤ) → int_eq a a ≡ true
-self_int a = ?
+self_int a = grind (arith, ints)
 
 not_one : (m : ℕ) → int_eq (pos (suc (suc m))) (pos 1) ≡ false
-not_one m = ?
+not_one m = grind (arith, ints)
 
 one : int_eq (pos 1) (pos 1) ≡ true
 one = refl
@@ -99,7 +99,7 @@ packed_back base (d ∷ ds) l n h =
 -- a negative or zero extent leaves no subscript
 no_count : (z : ℤ) → le_z z (pos 0) ≡ true → count_of z ≡ 0
 no_count (pos zero) h = refl
-no_count (pos (suc m)) h = absurd (cc)
+no_count (pos (suc m)) h = absurd (omega (arith, ints))
 no_count (negsuc m) h = refl
 
 spread_none : (s : ℤ) (os : List ℤ) → spread s 0 os ≡ []

@@ -1,5 +1,5 @@
 -- Rows of offsets in 64 bits, and the exact offsets that they stand for.
-use Rattle.std.proofs.Common.{◌≡◌, ℕ, ℤ, pos, ◌+◌, ◌<◌, ◌≤◌, ◌+ℤ◌, ◌-ℤ◌, ◌*ℤ◌, List, [], ◌∷◌, ◌++◌, length, map, take, get_or, FitsSigned, w64, IsTrue, Bool, true, false, ◌&&◌, append_assoc, append-nil, refl, ap, sym, ◌∙◌, arith}
+use Rattle.std.proofs.Common.{◌≡◌, ℕ, ℤ, pos, ◌+◌, ◌<◌, ◌≤◌, ◌+ℤ◌, ◌-ℤ◌, ◌*ℤ◌, List, [], ◌∷◌, ◌++◌, length, map, take, drop, get_or, ◌-◌, FitsSigned, w64, IsTrue, Bool, true, false, ◌&&◌, append_assoc, append-nil, refl, ap, sym, ◌∙◌, arith}
 use Rattle.std.specs.Int.{int_wrap}
 use Rattle.std.specs.List.{All, flat_map, list_all}
 use Rattle.std.proofs.lemmas.Int.{int_wrap_fits, int_wrap-add_left}
@@ -75,9 +75,18 @@ choices_empty_at (t ∷ ts) s h e f = choices_empty_first (subscripts_of t) (map
 pub row_all : (d : AxisDim) (o o' : ℤ) (ks start out : List ℤ) (i : ℕ) → o ≡ o' → length ks ≤ i → out ≡ start ++ map (moved_in_64_bits d o) (take i ks) → out ≡ start ++ map (moved_in_64_bits d o') ks
 row_all d o o' ks start out i e h p = rw (e, take_all i ks h) at p
 
+-- the rest of a list
+rest_of : {A : Type 0} (x : A) (xs : List A) → take (length (x ∷ xs) - 1) (drop 1 (x ∷ xs)) ≡ xs
+rest_of x xs = take_all (length (x ∷ xs) - 1) xs (omega arith)
+
 -- a dimension more, at the heads of lists
-pub wrapped_at : (base base' : ℤ) (dims : List AxisDim) (subs : List Sub) → base ≡ base' → offsets_at base dims (map subscripts_of subs) ≡ offsets_at base' dims (map subscripts_of subs)
-wrapped_at base base' dims subs e = ap (λ (b : ℤ). offsets_at b dims (map subscripts_of subs)) e
+pub wrapped_at : (base base' : ℤ) (dims : List AxisDim) (subs : List Sub) (z : AxisDim) (s : Sub) (offsets longer : List ℤ) → 1 ≤ length dims → 1 ≤ length subs → s ≡ get_or subs 0 s → base ≡ base' → offsets ≡ map (int_wrap w64) (offsets_at base (take (length dims - 1) (drop 1 dims)) (map subscripts_of (take (length subs - 1) (drop 1 subs)))) → longer ≡ rows_in_64_bits (get_or dims 0 z) (subscripts_of s) offsets → longer ≡ map (int_wrap w64) (offsets_at base' dims (map subscripts_of subs))
+wrapped_at base base' [] subs z s offsets longer h k e b p q = absurd (omega arith)
+wrapped_at base base' (d ∷ ds) [] z s offsets longer h k e b p q = absurd (omega arith)
+wrapped_at base base' (d ∷ ds) (t ∷ ts) z s offsets longer h k e b p q =
+    q ∙ ap (λ (x : Sub). rows_in_64_bits d (subscripts_of x) offsets) e
+    ∙ ap (rows_in_64_bits d (subscripts_of t)) (rw (rest_of d ds, rest_of t ts, b) at p)
+    ∙ wrapped_more base' d ds (subscripts_of t) (map subscripts_of ts)
 
 pub rows_all : (d : AxisDim) (ks offsets out : List ℤ) (i : ℕ) → length offsets ≤ i → out ≡ rows_in_64_bits d ks (take i offsets) → out ≡ rows_in_64_bits d ks offsets
 rows_all d ks offsets out i h p = rw (take_all i offsets h) at p

@@ -1,6 +1,7 @@
 -- Rows of equal steps after one another, and when they lie side by side.
 use Rattle.std.proofs.Common.{◌≡◌, ℕ, ℤ, pos, negsuc, suc, zero, ◌+ℤ◌, ◌-ℤ◌, ◌*ℤ◌, List, [], ◌∷◌, ◌++◌, map, append-nil, refl, ap, sym, ◌∙◌, arith}
 use Rattle.std.specs.List.{flat_map}
+use Rattle.std.proofs.Math.IntN.{suc_ℤ, suc_ℤ-*ℤ, zero-*ℤ}
 use Rattle.std.proofs.lemmas.Int.{ints}
 use Rattle.array_view.specs.declared.axes.AxisDim.{AxisDim}
 use Rattle.array_view.specs.Subscripts.{steps_from}
@@ -11,15 +12,26 @@ abbrev pub spread : ℤ → ℕ → List ℤ → List ℤ
 spread step n [] = []
 spread step n (o ∷ os) = steps_from o step n ++ spread step n os
 
+plus_one : (x : ℤ) → x +ℤ pos 1 ≡ suc_ℤ x
+plus_one (pos n) = ap pos (omega arith)
+plus_one (negsuc zero) = refl
+plus_one (negsuc (suc n)) = refl
+
 step_on : (o k l m : ℤ) → o +ℤ ((k +ℤ pos 1) -ℤ l) *ℤ m ≡ (o +ℤ (k -ℤ l) *ℤ m) +ℤ m
-step_on o k l m = omega (arith, ints)
+step_on o k l m =
+    let e : (k +ℤ pos 1) -ℤ l ≡ (k -ℤ l) +ℤ pos 1 = omega (arith, ints) in
+    let p : ((k +ℤ pos 1) -ℤ l) *ℤ m ≡ (k -ℤ l) *ℤ m +ℤ m = ap (λ (z : ℤ). z *ℤ m) (e ∙ plus_one (k -ℤ l)) ∙ suc_ℤ-*ℤ (k -ℤ l) m in
+    omega (arith, ints)
 
 row_steps : (d : AxisDim) (o k : ℤ) (n : ℕ) → map (λ k. o +ℤ (k -ℤ d.lower) *ℤ d.sm) (steps_from k (pos 1) n) ≡ steps_from (o +ℤ (k -ℤ d.lower) *ℤ d.sm) d.sm n
 row_steps d o k zero = refl
 row_steps d o k (suc n) = ap (λ xs. (o +ℤ (k -ℤ d.lower) *ℤ d.sm) ∷ xs) (row_steps d o (k +ℤ pos 1) n ∙ ap (λ (x : ℤ). steps_from x d.sm n) (step_on o k d.lower d.sm))
 
 at_lower : (o l m : ℤ) → o +ℤ (l -ℤ l) *ℤ m ≡ o
-at_lower o l m = omega (arith, ints)
+at_lower o l m =
+    let e : l -ℤ l ≡ pos 0 = omega (arith, ints) in
+    let p : (l -ℤ l) *ℤ m ≡ pos 0 = ap (λ (z : ℤ). z *ℤ m) e ∙ zero-*ℤ m in
+    omega (arith, ints)
 
 -- the rows of a dimension are steps of its multiplier
 pub rows-steps : (d : AxisDim) (n : ℕ) (os : List ℤ) → flat_map (λ o. map (λ k. o +ℤ (k -ℤ d.lower) *ℤ d.sm) (steps_from d.lower (pos 1) n)) os ≡ spread d.sm n os
