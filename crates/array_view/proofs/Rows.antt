@@ -1,5 +1,5 @@
 -- Rows of offsets in 64 bits, and the exact offsets that they stand for.
-use Rattle.std.proofs.Common.{◌≡◌, ℕ, ℤ, pos, ◌+◌, ◌<◌, ◌≤◌, ◌+ℤ◌, ◌-ℤ◌, ◌*ℤ◌, List, [], ◌∷◌, ◌++◌, length, map, take, drop, get_or, ◌-◌, FitsSigned, w64, IsTrue, Bool, true, false, ◌&&◌, append_assoc, append-nil, refl, ap, sym, ◌∙◌, arith}
+use Rattle.std.proofs.Common.{◌≡◌, ℕ, ℤ, pos, ◌+◌, ◌<◌, ◌≤◌, ◌+ℤ◌, ◌-ℤ◌, ◌*ℤ◌, List, [], ◌∷◌, ◌++◌, length, map, take, drop, get_or, ◌-◌, FitsSigned, w64, Vec, Global, IsTrue, Bool, true, false, ◌&&◌, append_assoc, append-nil, refl, ap, sym, ◌∙◌, arith}
 use Rattle.std.specs.Int.{int_wrap}
 use Rattle.std.specs.List.{All, flat_map, list_all}
 use Rattle.std.proofs.lemmas.Int.{int_wrap_fits, int_wrap-add_left}
@@ -9,6 +9,7 @@ use Rattle.array_view.specs.declared.axes.AxisDim.{AxisDim}
 use Rattle.array_view.specs.declared.subscript.Sub.{Sub}
 use Rattle.array_view.specs.Elements.{choices, element_offset, moved_in_64_bits, rows_in_64_bits, offsets_at, section_offsets}
 use Rattle.array_view.specs.declared.view.ArrayView.{ArrayView}
+use Rattle.array_view.specs.Sections.{IsSection}
 use Rattle.array_view.specs.Subscripts.{are_designated, has_direction, subscripts_of}
 use Rattle.array_view.proofs.Choosing.{map-choices}
 
@@ -91,6 +92,18 @@ wrapped_at base base' (d ∷ ds) (t ∷ ts) z s offsets longer h k e b p q =
 pub rows_all : (d : AxisDim) (ks offsets out : List ℤ) (i : ℕ) → length offsets ≤ i → out ≡ rows_in_64_bits d ks (take i offsets) → out ≡ rows_in_64_bits d ks offsets
 rows_all d ks offsets out i h p = rw (take_all i offsets h) at p
 
--- offsets that fit are the section's
-pub section_is : (v : ArrayView) (subs : List Sub) (base : ℤ) (dims : List AxisDim) (out : List ℤ) → base ≡ v.base → dims ≡ v.dims → All (FitsSigned w64) (section_offsets v subs) → out ≡ map (int_wrap w64) (offsets_at base dims (map subscripts_of subs)) → out ≡ section_offsets v subs
-section_is v subs base dims out e f h p = (rw (e, f) at p) ∙ wrapped_fits (section_offsets v subs) h
+-- what was found is the section
+pub section_is : (v : ArrayView) (subs : List Sub) (base : ℤ) (dims : List AxisDim) (out : Vec ℤ Global) → are_designated v.dims subs ≡ true → base ≡ v.base → dims ≡ v.dims → out.items ≡ map (int_wrap w64) (offsets_at base dims (map subscripts_of subs)) → IsSection v subs out
+section_is v subs base dims out d e f p = record {
+  designated = d;
+  exact = λ h. (rw (e, f) at p) ∙ wrapped_fits (section_offsets v subs) h;
+  wrapped = rw (e, f) at p;
+}
+
+-- no element is a section too
+pub nothing_is : (v : ArrayView) (subs : List Sub) (out : Vec ℤ Global) → are_designated v.dims subs ≡ true → choices (map subscripts_of subs) ≡ [] → out.items ≡ [] → IsSection v subs out
+nothing_is v subs out d c p = record {
+  designated = d;
+  exact = λ h. p ∙ sym (ap (λ (cs : List (List ℤ)). map (element_offset v.base v.dims) cs) c);
+  wrapped = p ∙ sym (ap (λ (cs : List (List ℤ)). map (int_wrap w64) (map (element_offset v.base v.dims) cs)) c);
+}

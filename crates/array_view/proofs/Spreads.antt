@@ -15,7 +15,7 @@ spread step n (o ∷ os) = steps_from o step n ++ spread step n os
 plus_one : (x : ℤ) → x +ℤ pos 1 ≡ suc_ℤ x
 plus_one (pos n) = ap pos (omega arith)
 plus_one (negsuc zero) = refl
-plus_one (negsuc (suc n)) = refl
+plus_one (negsuc (suc n)) = omega (arith, ints)
 
 step_on : (o k l m : ℤ) → o +ℤ ((k +ℤ pos 1) -ℤ l) *ℤ m ≡ (o +ℤ (k -ℤ l) *ℤ m) +ℤ m
 step_on o k l m =

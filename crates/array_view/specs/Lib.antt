@@ -1,3 +1,4 @@
 pub mod Subscripts
 pub mod Elements
 pub mod Contiguous
+pub mod Sections

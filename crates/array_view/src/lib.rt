@@ -14,3 +14,6 @@ pub use contiguous::is_contiguous;
 pub use offsets::section;
 pub use subscript::Sub;
 pub use view::ArrayView;
+
+#[cfg(test)]
+mod tests;

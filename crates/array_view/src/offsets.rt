@@ -1,9 +1,9 @@
-ghost use Rattle.std.specs.Prelude.{◌≡◌, ◌++◌, [], IsTrue, IfOk, OnOk, MatchOption, true, false, length, map};
+ghost use Rattle.std.specs.Prelude.{◌≡◌, ◌++◌, [], IsTrue, IfOk, OnOk, MatchOption, false, length, map};
 ghost use Rattle.std.specs.Int.{int_wrap, w64};
-ghost use Rattle.std.specs.Int.RustNames.{FitsSigned};
-ghost use Rattle.std.specs.List.{All, list_all};
+ghost use Rattle.std.specs.List.{list_all};
 ghost use Rattle.array_view.specs.Subscripts.{are_designated, has_direction, subscripts_of};
-ghost use Rattle.array_view.specs.Elements.{choices, moved_in_64_bits, rows_in_64_bits, offsets_at, section_offsets};
+ghost use Rattle.array_view.specs.Elements.{choices, moved_in_64_bits, rows_in_64_bits, offsets_at};
+ghost use Rattle.array_view.specs.Sections.{IsSection};
 
 use crate::axes::AxisDim;
 use crate::bounds::are_designated;
@@ -103,12 +103,11 @@ fn has_empty(subs: &[Sub]) -> bool
 
 /// Where the elements of a section of the array begin, the first dimension varying fastest (ISO/IEC 1539-1:2018, 9.5.3.3).
 ///
-/// `None` where a subscript that occurs lies outside its dimension, or a stride is 0.
+/// `None` where a subscript that occurs lies outside its dimension, or a stride is 0. An offset outside of 64 bits comes wrapped to them.
 /// The time that it takes is that of its elements and of its vector subscripts.
 pub fn section(alloc: Global, v: &ArrayView, subs: &[Sub]) -> Result<Option<Vec<i64>>, Memory>
-    requires one_each { length subs.now ≡ length v.now.dims }
-    requires in_reach { are_designated v.now.dims subs.now ≡ true → All (FitsSigned w64) (section_offsets v.now subs.now) }
-    ensures { IfOk result (λ found. MatchOption found (are_designated v.now.dims subs.now ≡ false) (λ offsets. (are_designated v.now.dims subs.now ≡ true) × (offsets.items ≡ section_offsets v.now subs.now))) }
+    requires { length subs.now ≡ length v.now.dims }
+    ensures { IfOk result (λ found. MatchOption found (are_designated v.now.dims subs.now ≡ false) (IsSection v.now subs.now)) }
 {
     let dims = v.dims.as_slice();
     if !are_designated(dims, subs) {

@@ -7,4 +7,4 @@ use Rattle.array_view.proofs.Packed.{packed_forth, packed_back, none_side}
 use Rattle.array_view.proofs.contiguous.+is_packed.Goals as goal
 
 pub returns-then-from-len : goal.returns-then-from-len
-returns-then-from-len t c = let a : ℕ = c.is_packed-then-from-len.ensures in ?
+returns-then-from-len t c = ?

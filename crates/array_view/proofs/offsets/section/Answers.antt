@@ -5,7 +5,7 @@ use Rattle.std.proofs.lemmas.Int.{ints, to_z-of_z}
 use Rattle.std.proofs.lemmas.List.{take_all}
 use Rattle.array_view.specs.Subscripts.{is_past, are_designated, has_direction, subscripts_of}
 use Rattle.array_view.specs.Elements.{choices, offsets_at, section_offsets, moved_in_64_bits, rows_in_64_bits}
-use Rattle.array_view.proofs.Rows.{row_more, section_is, rows_more, wrapped_more, wrapped_at, wrapped_fits, choices_empty_at, directed}
+use Rattle.array_view.proofs.Rows.{row_more, section_is, nothing_is, rows_more, wrapped_more, wrapped_at, wrapped_fits, choices_empty_at, directed}
 use Rattle.array_view.proofs.Counting.{triplet_count-past, past_as}
 use Rattle.array_view.proofs.offsets.section.Goals as goal
 
@@ -16,4 +16,4 @@ pub returns : goal.returns
 returns c =
     let d : are_designated c.args.v.now.dims c.args.subs.now ≡ true = sym (rw c.as_slice-dims.ensures at c.if-not-are_designated.ensures) in
     let f : FitsSigned w64 c.args.v.now.base = search rules in
-    (d, section_is c.args.v.now c.args.subs.now (to_z w64 (of_z w64 c.args.v.now.base)) c.as_slice-dims.result.now c.in_ok-offsets.offsets.items (to_z-of_z w64 c.args.v.now.base f) c.as_slice-dims.ensures (c.requires.in_reach d) c.in_ok-offsets.ensures)
+    section_is c.args.v.now c.args.subs.now (to_z w64 (of_z w64 c.args.v.now.base)) c.as_slice-dims.result.now c.in_ok-offsets.offsets d (to_z-of_z w64 c.args.v.now.base f) c.as_slice-dims.ensures c.in_ok-offsets.ensures
