@@ -1,8 +1,8 @@
 -- How many subscripts a triplet has, a stride at a time.
-use Rattle.std.proofs.Common.{◌≡◌, ◌≢◌, ℕ, ℤ, pos, negsuc, suc, zero, ◌+◌, ◌*◌, ◌/◌, ◌%◌, ◌<◌, ◌≤◌, ◌+ℤ◌, ◌-ℤ◌, ◌*ℤ◌, ◌≤ℤ◌, ◌<ℤ◌, FitsSigned, w64, cond, Bool, true, false, unsigned_abs, List, [], ◌∷◌, ◌++◌, append_assoc, append-nil, refl, ap, sym, ◌∙◌, arith}
+use Rattle.std.proofs.Common.{◌≡◌, ◌≢◌, ℕ, ℤ, pos, negsuc, suc, zero, ◌+◌, ◌/◌, ◌<◌, ◌+ℤ◌, ◌-ℤ◌, ◌≤ℤ◌, ◌<ℤ◌, FitsSigned, w64, cond, Bool, true, false, unsigned_abs, List, [], ◌∷◌, ◌++◌, append_assoc, append-nil, refl, sym, ◌∙◌, arith}
 use Rattle.std.proofs.Math.Nat.{div-eq_of_lt, add-div_right}
 use Rattle.std.proofs.lemmas.Int.{ints}
-use Rattle.std.specs.Int.Signed.{le_z, lt_z}
+use Rattle.std.specs.Int.Signed.{lt_z}
 use Rattle.array_view.specs.Subscripts.{is_past, triplet_count, steps_from}
 
 pub abs_is : (z : ℤ) → pos 0 ≤ℤ z → z ≡ pos (unsigned_abs z)
@@ -23,16 +23,16 @@ unfolding triplet_count
 count_up first last s h =
     let a : last -ℤ first ≡ pos (unsigned_abs (last -ℤ first)) = abs_is (last -ℤ first) (omega (arith, ints)) in
     rw h (whole_step (lt_z last (first +ℤ pos (suc s))) (unsigned_abs (last -ℤ first)) (unsigned_abs (last -ℤ (first +ℤ pos (suc s)))) (suc s) (omega arith)
-      (λ e. omega (arith, ints))
-      (λ e. let b : last -ℤ (first +ℤ pos (suc s)) ≡ pos (unsigned_abs (last -ℤ (first +ℤ pos (suc s)))) = abs_is (last -ℤ (first +ℤ pos (suc s))) (omega (arith, ints)) in omega (arith, ints)))
+    (λ e. omega (arith, ints))
+    (λ e. let b : last -ℤ (first +ℤ pos (suc s)) ≡ pos (unsigned_abs (last -ℤ (first +ℤ pos (suc s)))) = abs_is (last -ℤ (first +ℤ pos (suc s))) (omega (arith, ints)) in omega (arith, ints)))
 
 count_down : (first last : ℤ) (s : ℕ) → lt_z first last ≡ false → triplet_count first last (negsuc s) ≡ suc (triplet_count (first +ℤ negsuc s) last (negsuc s))
 unfolding triplet_count
 count_down first last s h =
     let a : (last -ℤ first) +ℤ pos (unsigned_abs (last -ℤ first)) ≡ pos 0 = abs_is_down (last -ℤ first) (omega (arith, ints)) in
     rw h (whole_step (lt_z (first +ℤ negsuc s) last) (unsigned_abs (last -ℤ first)) (unsigned_abs (last -ℤ (first +ℤ negsuc s))) (suc s) (omega arith)
-      (λ e. omega (arith, ints))
-      (λ e. let b : (last -ℤ (first +ℤ negsuc s)) +ℤ pos (unsigned_abs (last -ℤ (first +ℤ negsuc s))) ≡ pos 0 = abs_is_down (last -ℤ (first +ℤ negsuc s)) (omega (arith, ints)) in omega (arith, ints)))
+    (λ e. omega (arith, ints))
+    (λ e. let b : (last -ℤ (first +ℤ negsuc s)) +ℤ pos (unsigned_abs (last -ℤ (first +ℤ negsuc s))) ≡ pos 0 = abs_is_down (last -ℤ (first +ℤ negsuc s)) (omega (arith, ints)) in omega (arith, ints)))
 
 -- before the end there is one more than from the next subscript on
 pub triplet_count-step : (first last stride : ℤ) → stride ≢ pos 0 → is_past last stride first ≡ false → triplet_count first last stride ≡ suc (triplet_count (first +ℤ stride) last stride)

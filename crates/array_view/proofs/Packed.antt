@@ -1,10 +1,9 @@
 -- Multipliers tell whether all elements lie side by side.
-use Rattle.std.proofs.Common.{◌≡◌, ℕ, ℤ, pos, negsuc, suc, zero, ◌+ℤ◌, ◌-ℤ◌, ◌*ℤ◌, Bool, true, false, ◌&&◌, ◌||◌, cond, List, [], ◌∷◌, ◌++◌, map, refl, ap, sym, ◌∙◌, subst, arith}
+use Rattle.std.proofs.Common.{◌≡◌, ℕ, ℤ, pos, negsuc, suc, zero, ◌+ℤ◌, ◌-ℤ◌, ◌*ℤ◌, Bool, true, false, ◌&&◌, ◌||◌, length, take, drop, get_or, ◌-◌, ◌≤◌, List, [], ◌∷◌, ◌++◌, map, refl, ap, sym, ◌∙◌, arith}
 use Rattle.std.specs.Int.Signed.{le_z}
 use Rattle.std.specs.Ordering.{int_eq}
-use Rattle.std.specs.List.{flat_map, list_any}
 use Rattle.std.proofs.lemmas.Int.{ints}
-use Rattle.std.proofs.lemmas.Bool.Decides.{Decides-int_eq}
+use Rattle.std.proofs.lemmas.List.{take_all}
 use Rattle.array_view.specs.declared.axes.AxisDim.{AxisDim}
 use Rattle.array_view.specs.Subscripts.{steps_from}
 use Rattle.array_view.specs.Elements.{choices, element_offset, offsets_at, axis_subscripts, count_of}
@@ -116,3 +115,14 @@ no_element base (d ∷ ds) h = none_at base d ds (le_z d.extent (pos 0)) refl h 
 
 pub none_side : (base l : ℤ) (ds : List AxisDim) → has_no_element ds ≡ true → IsSideBySide l (whole base ds)
 none_side base l ds h = rw (no_element base ds h) tt
+
+unequal : (a b : ℤ) → (a ≡ b → ⊥) → int_eq a b ≡ false
+unequal a b h = grind (arith, ints)
+
+rest_of : {A : Type 0} (x : A) (xs : List A) → take (length (x ∷ xs) - 1) (drop 1 (x ∷ xs)) ≡ xs
+rest_of x xs = take_all (length (x ∷ xs) - 1) xs (omega arith)
+
+-- the test goes on with the rest of the dimensions
+pub packed_at : (dims : List AxisDim) (z : AxisDim) (l k : ℤ) → 1 ≤ length dims → ((get_or dims 0 z).extent ≡ pos 1 → ⊥) → (get_or dims 0 z).sm ≡ l → k ≡ (get_or dims 0 z).sm *ℤ (get_or dims 0 z).extent → is_packed (take (length dims - 1) (drop 1 dims)) k ≡ is_packed dims l
+packed_at [] z l k n e s p = absurd (omega arith)
+packed_at (d ∷ ds) z l k n e s p = rw (rest_of d ds, p, unequal d.extent (pos 1) e, ← s, self_int d.sm) refl

@@ -1,5 +1,5 @@
 -- Remainders by a stride, as small as the stride.
-use Rattle.std.proofs.Common.{◌≡◌, ◌≢◌, ℕ, ℤ, pos, negsuc, suc, zero, ◌<◌, ◌≤◌, ◌+ℤ◌, ◌-ℤ◌, ◌≤ℤ◌, ◌^◌, FitsSigned, w64, unsigned_abs, int_rem, refl, ap, sym, ◌∙◌, arith}
+use Rattle.std.proofs.Common.{◌≡◌, ◌≢◌, ℕ, ℤ, pos, negsuc, suc, zero, ◌<◌, ◌≤◌, ◌+ℤ◌, ◌≤ℤ◌, ◌^◌, FitsSigned, w64, unsigned_abs, int_rem, refl, arith}
 use Rattle.std.proofs.lemmas.Int.{ints, rem_below}
 
 pub abs_positive : (d : ℤ) → d ≢ pos 0 → 0 < unsigned_abs d
@@ -15,7 +15,7 @@ pub within_abs : (z : ℤ) (n : ℕ) → unsigned_abs z ≤ n → (z ≤ℤ pos 
 within_abs (pos k) n h = (omega (arith, ints), omega (arith, ints))
 within_abs (negsuc k) n h = (omega (arith, ints), omega (arith, ints))
 
-abs_fits : (d : ℤ) → FitsSigned w64 d → unsigned_abs d ≤ 2 ^ 63
+pub abs_fits : (d : ℤ) → FitsSigned w64 d → unsigned_abs d ≤ 2 ^ 63
 abs_fits (pos n) h = omega (arith, ints)
 abs_fits (negsuc n) h = omega (arith, ints)
 

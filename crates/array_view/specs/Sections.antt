@@ -1,5 +1,6 @@
 -- What a section of an array is told by.
-use Rattle.std.specs.Prelude.{◌≡◌, ℤ, true, List, map, Vec, Global}
+use Rattle.std.specs.Prelude.{◌≡◌, ℤ, true, List, map, Vec}
+use Rattle.std.specs.Global.{Global}
 use Rattle.std.specs.Int.{int_wrap, w64}
 use Rattle.std.specs.Int.RustNames.{FitsSigned}
 use Rattle.std.specs.List.{All}

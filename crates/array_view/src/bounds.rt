@@ -80,7 +80,5 @@ pub(crate) fn are_designated(dims: &[AxisDim], subs: &[Sub]) -> bool
     let [sub, subs @ ..] = subs else {
         return true;
     };
-    has_direction(sub)
-        && lies_in(dim, is_open_ended(dim, dims), sub)
-        && are_designated(dims, subs)
+    has_direction(sub) && lies_in(dim, is_open_ended(dim, dims), sub) && are_designated(dims, subs)
 }

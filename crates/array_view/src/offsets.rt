@@ -62,7 +62,12 @@ fn rows_at(alloc: Global, offsets: &[i64], dim: &AxisDim, sub: &Sub) -> Result<V
 }
 
 /// The offsets at the subscripts, as they are in 64 bits.
-fn wrapped_offsets(alloc: Global, base: i64, dims: &[AxisDim], subs: &[Sub]) -> Result<Vec<i64>, AllocError>
+fn wrapped_offsets(
+    alloc: Global,
+    base: i64,
+    dims: &[AxisDim],
+    subs: &[Sub],
+) -> Result<Vec<i64>, AllocError>
     requires one_each { length subs.now ≡ length dims.now }
     requires directed { IsTrue (list_all has_direction subs.now) }
     ensures { IfOk result (λ v. v.items ≡ map (int_wrap w64) (offsets_at base dims.now (map subscripts_of subs.now))) }

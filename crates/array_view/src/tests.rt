@@ -75,12 +75,40 @@ fn vector_subscripts_keep_their_order(rt: HostRuntime) -> Result<(), Fail> {
 fn the_first_dimension_varies_fastest(rt: HostRuntime) {
     let alloc = rt.alloc();
     let v = view(alloc, 0, 4, &[(1, 2, 4), (-1, 3, 8)]);
-    assert!(rt; is_section(&v, &[triplet(1, 2, 1), triplet(1, -1, -2)], Some(&[16, 20, 0, 4]), alloc));
-    assert!(rt; is_section(&v, &[Sub::One(2), triplet(-1, 1, 1)], Some(&[4, 12, 20]), alloc));
+    assert!(rt;
+        is_section(
+            &v,
+            &[triplet(1, 2, 1), triplet(1, -1, -2)],
+            Some(&[16, 20, 0, 4]),
+            alloc
+        )
+    );
+    assert!(rt;
+        is_section(
+            &v,
+            &[Sub::One(2), triplet(-1, 1, 1)],
+            Some(&[4, 12, 20]),
+            alloc
+        )
+    );
     let cube = view(alloc, 0, 1, &[(1, 2, 1), (1, 2, 2), (1, 2, 4)]);
-    assert!(rt; is_section(&cube, &[triplet(2, 1, -1), Sub::One(2), triplet(1, 2, 1)], Some(&[3, 2, 7, 6]), alloc));
+    assert!(rt;
+        is_section(
+            &cube,
+            &[triplet(2, 1, -1), Sub::One(2), triplet(1, 2, 1)],
+            Some(&[3, 2, 7, 6]),
+            alloc
+        )
+    );
     let huge = view(alloc, 0, 1, &[(1, 1 << 62, 1), (1, 0, 1)]);
-    assert!(rt; is_section(&huge, &[triplet(1, 1 << 62, 1), triplet(1, 0, 1)], Some(&[]), alloc));
+    assert!(rt;
+        is_section(
+            &huge,
+            &[triplet(1, 1 << 62, 1), triplet(1, 0, 1)],
+            Some(&[]),
+            alloc
+        )
+    );
     let open = view(alloc, 0, 4, &[(1, -1, 4)]);
     assert!(rt; is_section(&open, &[triplet(7, 8, 1)], Some(&[24, 28]), alloc));
 }

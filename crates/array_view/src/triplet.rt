@@ -15,7 +15,12 @@ pub(crate) fn is_past(last: i64, stride: i64, k: i128) -> bool
 }
 
 /// The subscripts of a triplet, whose stride isn't 0.
-pub(crate) fn triplet(alloc: Global, first: i64, last: i64, stride: i64) -> Result<Vec<i64>, AllocError>
+pub(crate) fn triplet(
+    alloc: Global,
+    first: i64,
+    last: i64,
+    stride: i64,
+) -> Result<Vec<i64>, AllocError>
     requires { stride ≢ pos 0 }
     ensures { IfOk result (λ ks. ks.items ≡ steps_from first stride (triplet_count first last stride)) }
 {

@@ -1,4 +1,4 @@
-use Rattle.std.proofs.Common.{◌≡◌, ◌≢◌, ◌+ℤ◌, ◌-ℤ◌, ◌<ℤ◌, ◌≤ℤ◌, ◌^◌, pos, Bool, true, false, ℕ, ℤ, FitsSigned, to_z, of_z, w64, arith, sym, ap, ◌∙◌, int_rem, unsigned_abs, ◌<◌, ◌≤◌}
+use Rattle.std.proofs.Common.{◌≡◌, ◌+ℤ◌, ◌-ℤ◌, ◌≤ℤ◌, ◌^◌, pos, ℤ, to_z, of_z, w64, arith, ap, ◌∙◌, int_rem, unsigned_abs, ◌<◌}
 use Rattle.std.specs.Int.{w128}
 use Rattle.std.proofs.lemmas.Int.{ints, to_z-of_z, quot_fits}
 use Rattle.array_view.proofs.Remainders.{abs_positive, rem-abs, rem_within}
@@ -7,9 +7,10 @@ use Rattle.array_view.proofs.bounds.final_subscript.Goals as goal
 pub nonzero_rem-result : goal.nonzero_rem-result
 nonzero_rem-result c =
     let p : 0 < unsigned_abs c.args.stride = abs_positive c.args.stride c.requires in
-    let s : c.from-step.result ≡ pos (unsigned_abs c.args.stride) = c.from-step.ensures ∙ ap pos (c.unsigned_abs.ensures.value ∙ ap unsigned_abs (to_z-of_z w64 c.args.stride c.ranges.stride)) in
-    ( omega (arith, ints)
-    , quot_fits w128 (to_z w128 (of_z w128 (to_z w128 (of_z w128 c.from-last.result) -ℤ to_z w128 (of_z w128 c.from-first.result)))) (to_z w128 (of_z w128 c.from-step.result)) (omega (arith, ints)) (omega (arith, ints)))
+    let s : c.from-step.result ≡ pos (unsigned_abs c.args.stride) = c.from-step.ensures ∙ ap pos (c.unsigned_abs.ensures.value ∙ ap unsigned_abs (to_z-of_z w64 c.args.stride c.ranges.stride)) in (
+      omega (arith, ints),
+      quot_fits w128 (to_z w128 (of_z w128 (to_z w128 (of_z w128 c.from-last.result) -ℤ to_z w128 (of_z w128 c.from-first.result)))) (to_z w128 (of_z w128 c.from-step.result)) (omega (arith, ints)) (omega (arith, ints)),
+    )
 
 pub overflow_sub-result : goal.overflow_sub-result
 overflow_sub-result c = omega (arith, ints)

@@ -1,7 +1,6 @@
-use Rattle.std.proofs.Common.{◌≡◌, ◌+ℤ◌, pos, Bool, true, false, ℤ, FitsSigned, to_z, of_z, arith, sym, ◌∙◌}
+use Rattle.std.proofs.Common.{◌+ℤ◌, to_z, of_z, arith}
 use Rattle.std.specs.Int.{w128}
-use Rattle.std.proofs.lemmas.Int.{ints, to_z-of_z}
-use Rattle.array_view.specs.Subscripts.{is_in_axis}
+use Rattle.std.proofs.lemmas.Int.{ints}
 use Rattle.array_view.proofs.Intervals.{in_axis_closed}
 use Rattle.array_view.proofs.bounds.is_in_axis.Goals as goal
 

@@ -1,8 +1,8 @@
-use Rattle.std.proofs.Common.{◌≡◌, ◌≢◌, ◌+ℤ◌, ◌-ℤ◌, pos, Bool, true, false, ◌&&◌, ℤ, FitsSigned, to_z, of_z, w64, arith, refl, sym, ap, ◌∙◌, int_rem}
+use Rattle.std.proofs.Common.{◌≡◌, ◌-ℤ◌, true, false, ◌&&◌, FitsSigned, to_z, of_z, w64, arith, refl, int_rem}
 use Rattle.std.specs.Int.{w128}
 use Rattle.std.proofs.lemmas.Int.{ints, to_z-of_z}
 use Rattle.std.specs.List.{list_all}
-use Rattle.array_view.specs.Subscripts.{is_in_axis, is_past, steps_from, triplet_count}
+use Rattle.array_view.specs.Subscripts.{is_in_axis, steps_from, triplet_count}
 use Rattle.array_view.proofs.Intervals.{ends_tell, none_tells, tell_both, tell_none}
 use Rattle.array_view.proofs.Counting.{past_as}
 use Rattle.array_view.proofs.bounds.triplet_lies_in.Goals as goal

@@ -1,5 +1,5 @@
-use Rattle.std.proofs.Common.{◌≡◌, ◌++◌, ◌+ℤ◌, ◌-ℤ◌, ◌*ℤ◌, map, take}
-use Rattle.array_view.specs.Elements.{moved_in_64_bits, rows_in_64_bits}
+use Rattle.std.proofs.Common.{◌≡◌, ◌++◌, map, take}
+use Rattle.array_view.specs.Elements.{moved_in_64_bits}
 use Rattle.array_view.proofs.offsets.push_row.Given as goal
 
 abbrev pub invariant-loop-k : goal.invariant-loop-k

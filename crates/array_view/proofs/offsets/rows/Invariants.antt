@@ -1,5 +1,5 @@
-use Rattle.std.proofs.Common.{◌≡◌, ◌++◌, ◌+ℤ◌, ◌-ℤ◌, ◌*ℤ◌, map, take}
-use Rattle.array_view.specs.Elements.{moved_in_64_bits, rows_in_64_bits}
+use Rattle.std.proofs.Common.{◌≡◌, take}
+use Rattle.array_view.specs.Elements.{rows_in_64_bits}
 use Rattle.array_view.proofs.offsets.rows.Given as goal
 
 abbrev pub invariant-loop-offset : goal.invariant-loop-offset
