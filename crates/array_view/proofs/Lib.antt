@@ -5,3 +5,4 @@ pub mod Choosing
 pub mod Rows
 pub mod Spreads
 pub mod Packed
+pub mod Strides

@@ -2,3 +2,4 @@ pub mod Subscripts
 pub mod Elements
 pub mod Contiguous
 pub mod Sections
+pub mod Strides

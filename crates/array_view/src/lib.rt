@@ -4,6 +4,7 @@
 mod axes;
 mod bounds;
 mod contiguous;
+mod laws;
 mod offsets;
 mod subscript;
 mod triplet;
@@ -11,6 +12,7 @@ mod view;
 
 pub use axes::{Axes, AxisDim};
 pub use contiguous::is_contiguous;
+pub use laws::strides_lead_to_the_elements;
 pub use offsets::section;
 pub use subscript::Sub;
 pub use view::ArrayView;
