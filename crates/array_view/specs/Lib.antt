@@ -1,0 +1,5 @@
+pub mod Subscripts
+pub mod Elements
+pub mod Contiguous
+pub mod Sections
+pub mod Strides
