@@ -91,7 +91,7 @@ layouts-flip same also h None (Some k) = refl
 layouts-flip same also h (Some l) None = refl
 layouts-flip same also h (Some l) (Some k) = pairs-flip (λ m n. same m.kind n.kind) (λ n m. also n.kind m.kind) (λ m n. h m.kind n.kind) l.members k.members
 
-structs-flip : (depth : ℕ) (t u : Bodies) (behind : Bool) (m n : ℕ) → structs_across depth t u behind m n ≡ structs_across depth u t behind n m
+pub structs-flip : (depth : ℕ) (t u : Bodies) (behind : Bool) (m n : ℕ) → structs_across depth t u behind m n ≡ structs_across depth u t behind n m
 structs-flip zero t u true m n = refl
 structs-flip (suc d) t u true m n = refl
 structs-flip zero t u false m n = refl

@@ -122,7 +122,7 @@ layouts_alike same None _ = true
 layouts_alike same (Some l) None = true
 layouts_alike same (Some l) (Some k) = members_alike same l.members k.members
 
--- Two structs of two files: behind a pointer any two are alike, and elsewhere those whose members are. The number says how deep structs may still hold structs; below that nothing is compared.
+-- Two structs of two files: behind a pointer any two are alike, and elsewhere those whose members are. The number says how deep structs may still hold structs; below that nothing is compared, but the law `structs_compare_by_members` says that no two structs of two tables hold structs so deep.
 abbrev pub structs_across : ℕ → Bodies → Bodies → Bool → ℕ → ℕ → Bool
 structs_across depth first second true s t = true
 structs_across zero first second false s t = true
@@ -138,7 +138,7 @@ abbrev pub rule_within : ℕ → Bodies → Option Bodies → Rule
 rule_within depth first None = in_one_file
 rule_within depth first (Some second) = across_files depth first second
 
--- a struct is laid out after those that it holds, so structs of two files hold structs no deeper than either file has structs
+-- A struct is completed after those that it holds, so it holds structs no deeper than its file has structs. By the law `structs_compare_by_members` this relation compares two structs by their members and itself, so the depth is never reached.
 abbrev pub rule_for : Bodies → Option Bodies → Rule
 rule_for first None = in_one_file
 rule_for first (Some second) = across_files (min (length first) (length second)) first second
