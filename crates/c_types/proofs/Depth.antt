@@ -1,6 +1,6 @@
 -- The depth to which structs of two files are compared is never reached.
-use Rattle.std.proofs.Common.{◌≡◌, ℕ, suc, zero, ◌+◌, ◌*◌, ◌<◌, ◌≤◌, ◌&&◌, ◌==◌, All, Bool, true, false, Option, Some, None, IfSome, IsSome, is_some, List, [], ◌∷◌, map, length, min, refl, ap, sym, subst, ◌∙◌, arith}
-use Rattle.c_types.specs.declared.ctype.CType.{CType, CType-F, out-CType, fold-CType, fold-roll-CType}
+use Rattle.std.proofs.Common.{◌≡◌, ℕ, suc, zero, ◌<◌, ◌≤◌, ◌&&◌, ◌==◌, All, Bool, true, false, Option, Some, None, IfSome, IsSome, List, [], ◌∷◌, map, length, min, refl, ap, sym, subst, ◌∙◌, arith}
+use Rattle.c_types.specs.declared.ctype.CType.{CType, CType-F, out-CType, fold-roll-CType}
 use Rattle.c_types.specs.declared.ctype.CType.TheVariants.{Struct}
 use Rattle.c_types.specs.declared.ctype.CType.TheViews.{outs-Struct, rolls-Struct}
 use Rattle.c_types.specs.declared.ctype.CType.TheOpen as c
@@ -11,8 +11,8 @@ use Rattle.c_types.specs.declared.ctype.Proto.{Proto}
 use Rattle.c_types.specs.declared.ctype.StructBody.TheVariants.{Incomplete, Complete}
 use Rattle.c_types.specs.Sizes.{Bodies, layout_at, whole_size}
 use Rattle.c_types.specs.Compatible.{Rule, alike, alike_layers, alike_of_proto, alike_proto, alike_step, are_compatible, across_files, compatible_by, layouts_alike, pairs_alike, rule_for, settled, structs_across}
-use Rattle.c_types.specs.Tables.{AreSound, InOrder, CompletedInTurn, IsSound, IsTable, completed, held}
-use Rattle.c_types.proofs.Induction.{by_layers, bare, bare_proto, Shown, ShownProto, answered, fold-bare}
+use Rattle.c_types.specs.Tables.{AreSound, InOrder, CompletedInTurn, IsTable, completed, held}
+use Rattle.c_types.proofs.Induction.{by_layers, bare_proto, Shown, ShownProto, answered, fold-bare}
 use Rattle.c_types.proofs.Held.{Made, base, base_step, base-settled, of_base, held-is, sized}
 use Rattle.c_types.proofs.Settling.{alike_proto-is, settled-roll}
 use Rattle.c_types.proofs.AlikeLaws.{structs-flip}

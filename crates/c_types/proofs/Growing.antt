@@ -1,5 +1,5 @@
 -- A table that grows.
-use Rattle.std.proofs.Common.{◌≡◌, ◌≢◌, ℕ, suc, zero, ◌+◌, ◌*◌, ◌<◌, ◌==◌, ◌⊎◌, inl, inr, All, Option, Some, None, is_some, IfSome, IsSome, arith, unwrap_or, List, [], ◌∷◌, ◌++◌, set, slice_get, Bool, true, false, if◌then◌else◌, refl, ap, sym, subst, ◌∙◌}
+use Rattle.std.proofs.Common.{◌≡◌, ◌≢◌, ℕ, suc, zero, ◌+◌, ◌*◌, ◌<◌, ◌==◌, ◌⊎◌, inl, inr, Option, Some, None, is_some, IfSome, IsSome, arith, unwrap_or, List, [], ◌∷◌, ◌++◌, set, slice_get, Bool, true, false, if◌then◌else◌, refl, ap, sym, subst, ◌∙◌}
 use Rattle.std.specs.Option.{option_map}
 use Rattle.c_types.specs.declared.ctype.CType.{CType}
 use Rattle.c_types.specs.declared.ctype.CType.TheOpen as c
@@ -10,7 +10,7 @@ use Rattle.c_types.specs.declared.ctype.Proto.{Proto}
 use Rattle.c_types.specs.declared.ctype.StructBody.TheVariants.{Incomplete, Complete}
 use Rattle.c_types.specs.Layouts.{align_or_one, size_or_none}
 use Rattle.c_types.specs.Sizes.{Bodies, alignment, align_step, layout_at, whole_size, size_step}
-use Rattle.c_types.specs.Tables.{AreSound, InOrder, CompletedInTurn, IsSound, IsTable, Keeps, completed, held}
+use Rattle.c_types.specs.Tables.{AreSound, InOrder, CompletedInTurn, IsSound, IsTable, Keeps, completed}
 use Rattle.c_types.proofs.Induction.{by_layers, Shown, answered, fold-bare}
 use Rattle.c_types.proofs.Held.{members-complete}
 use Rattle.c_types.proofs.SizeLemmas.{has_both}

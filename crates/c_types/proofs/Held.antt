@@ -1,11 +1,10 @@
 -- Of what the objects of a type consist: no struct, or one struct through arrays and const.
-use Rattle.std.proofs.Common.{◌≡◌, ℕ, zero, suc, ◌*◌, ◌<◌, ◌≤◌, All, Bool, true, false, Option, Some, None, IfSome, IsSome, is_some, List, [], ◌∷◌, length, refl, ap, sym, subst, ◌∙◌, arith}
+use Rattle.std.proofs.Common.{◌≡◌, ℕ, zero, suc, ◌*◌, All, Bool, true, false, Option, Some, None, IfSome, IsSome, List, [], ◌∷◌, refl, ap, sym, subst, ◌∙◌, arith}
 use Rattle.std.specs.Option.{option_map}
 use Rattle.c_types.specs.declared.ctype.CType.{CType, CType-F, fold-CType, fold-roll-CType, map-CType, roll-CType}
 use Rattle.c_types.specs.declared.ctype.CType.TheVariants.{Void, Bool as TheBool, Int, Char, Enum, Struct, Pointer, Array, Function, Descriptor, Cdesc, Const}
 use Rattle.c_types.specs.declared.ctype.CType.TheViews.{rolls-Void, rolls-Bool, rolls-Int, rolls-Char, rolls-Enum, rolls-Struct, rolls-Pointer, rolls-Array, rolls-Function, rolls-Descriptor, rolls-Cdesc, rolls-Const}
 use Rattle.c_types.specs.declared.ctype.CType.TheOpen as c
-use Rattle.c_types.specs.declared.ctype.Layout.{Layout}
 use Rattle.c_types.specs.declared.ctype.Member.{Member}
 use Rattle.c_types.specs.declared.ctype.Proto.{Proto}
 use Rattle.c_types.specs.Sizes.{Bodies, layout_at, whole_size, size_step}
