@@ -16,7 +16,7 @@ pub record Flips (r s : Rule) : Type 0 where
   pub enums : (m n : ℕ) → r.enums m n ≡ s.enums n m
   pub structs : (behind : Bool) (m n : ℕ) → r.structs behind m n ≡ s.structs behind n m
 
-abbrev Flipped : Rule → Rule → CType → Type 0
+abbrev pub Flipped : Rule → Rule → CType → Type 0
 Flipped r s a = (behind : Bool) (b : CType) → alike r a behind b ≡ alike s b behind a
 
 abbrev FlippedProto : Rule → Rule → Proto → Type 0
@@ -72,7 +72,7 @@ flip_proto r s y behind g =
     ∙ and-both _ _ _ _ (y.result.1 behind g.result) (pairs-flip_shown r s behind y.params g.params)
     ∙ sym (alike_proto-is s g (bare_proto (Flipped r s) (FlippedProto r s) y) behind)
 
-flipped : (r s : Rule) → Flips r s → (a : CType) → Flipped r s a
+pub flipped : (r s : Rule) → Flips r s → (a : CType) → Flipped r s a
 flipped r s f = by_layers (Flipped r s) (FlippedProto r s)
     (λ y behind b.
     ap (λ g. g behind b) (fold-bare (Flipped r s) (FlippedProto r s) (Bool → CType → Bool) (Bool → Proto → Bool) (alike_step r) alike_proto y)
@@ -85,13 +85,13 @@ flipped r s f = by_layers (Flipped r s) (FlippedProto r s)
 one_file-flips : Flips in_one_file in_one_file
 one_file-flips = record { enums = nat_eq-flips; structs = λ behind m n. nat_eq-flips m n }
 
-layouts-flip : (same also : CType → CType → Bool) → ((a b : CType) → same a b ≡ also b a) → (l k : Option Layout) → layouts_alike same l k ≡ layouts_alike also k l
+pub layouts-flip : (same also : CType → CType → Bool) → ((a b : CType) → same a b ≡ also b a) → (l k : Option Layout) → layouts_alike same l k ≡ layouts_alike also k l
 layouts-flip same also h None None = refl
 layouts-flip same also h None (Some k) = refl
 layouts-flip same also h (Some l) None = refl
 layouts-flip same also h (Some l) (Some k) = pairs-flip (λ m n. same m.kind n.kind) (λ n m. also n.kind m.kind) (λ m n. h m.kind n.kind) l.members k.members
 
-structs-flip : (depth : ℕ) (t u : Bodies) (behind : Bool) (m n : ℕ) → structs_across depth t u behind m n ≡ structs_across depth u t behind n m
+pub structs-flip : (depth : ℕ) (t u : Bodies) (behind : Bool) (m n : ℕ) → structs_across depth t u behind m n ≡ structs_across depth u t behind n m
 structs-flip zero t u true m n = refl
 structs-flip (suc d) t u true m n = refl
 structs-flip zero t u false m n = refl

@@ -1,5 +1,5 @@
 -- A table that grows.
-use Rattle.std.proofs.Common.{◌≡◌, ℕ, suc, zero, ◌+◌, ◌*◌, ◌⊎◌, inl, inr, Option, Some, None, is_some, IsSome, unwrap_or, List, [], ◌∷◌, ◌++◌, set, slice_get, Bool, true, false, if◌then◌else◌, refl, ap, sym, subst, ◌∙◌}
+use Rattle.std.proofs.Common.{◌≡◌, ◌≢◌, ℕ, suc, zero, ◌+◌, ◌*◌, ◌<◌, ◌==◌, ◌⊎◌, inl, inr, Option, Some, None, is_some, IfSome, IsSome, arith, unwrap_or, List, [], ◌∷◌, ◌++◌, set, slice_get, Bool, true, false, if◌then◌else◌, refl, ap, sym, subst, ◌∙◌}
 use Rattle.std.specs.Option.{option_map}
 use Rattle.c_types.specs.declared.ctype.CType.{CType}
 use Rattle.c_types.specs.declared.ctype.CType.TheOpen as c
@@ -10,8 +10,9 @@ use Rattle.c_types.specs.declared.ctype.Proto.{Proto}
 use Rattle.c_types.specs.declared.ctype.StructBody.TheVariants.{Incomplete, Complete}
 use Rattle.c_types.specs.Layouts.{align_or_one, size_or_none}
 use Rattle.c_types.specs.Sizes.{Bodies, alignment, align_step, layout_at, whole_size, size_step}
-use Rattle.c_types.specs.Tables.{InOrder, IsSound, IsTable, Keeps}
+use Rattle.c_types.specs.Tables.{AreSound, InOrder, CompletedInTurn, IsSound, IsTable, Keeps, completed}
 use Rattle.c_types.proofs.Induction.{by_layers, Shown, answered, fold-bare}
+use Rattle.c_types.proofs.Held.{members-complete}
 use Rattle.c_types.proofs.SizeLemmas.{has_both}
 
 abbrev Stays : Bodies → Bodies → Type 0
@@ -112,8 +113,22 @@ push-back (b ∷ bs) (suc s) l e = push-back bs s l e
 pub keeps-push : (bodies : Bodies) → Keeps bodies (bodies ++ Incomplete ∷ [])
 keeps-push bodies = keeps bodies (bodies ++ Incomplete ∷ []) (push-stays bodies)
 
+completed-push : (bodies : Bodies) → completed (bodies ++ Incomplete ∷ []) ≡ completed bodies
+completed-push [] = refl
+completed-push (Incomplete ∷ bs) = completed-push bs
+completed-push (Complete l ∷ bs) = ap suc (completed-push bs)
+
 pub table-push : (bodies : Bodies) → IsTable bodies → IsTable (bodies ++ Incomplete ∷ [])
-table-push bodies t s l e = sound_stays bodies (bodies ++ Incomplete ∷ []) (keeps-push bodies) l (t s l (push-back bodies s l e))
+table-push bodies t = record {
+  sound = λ s l e. sound_stays bodies (bodies ++ Incomplete ∷ []) (keeps-push bodies) l (t.sound s l (push-back bodies s l e));
+  times = (
+    t.times.0,
+    record {
+      counted = λ s l e. rw (completed-push bodies) (t.times.1.counted s l (push-back bodies s l e));
+      earlier = λ s l e. t.times.1.earlier s l (push-back bodies s l e);
+    },
+  );
+}
 
 set-stays : (bodies : Bodies) (s : ℕ) (k : Layout) → slice_get bodies s ≡ Some Incomplete → Stays bodies (set bodies s (Complete k))
 set-stays [] s k h v l e = absurd (cc)
@@ -123,22 +138,90 @@ set-stays (b ∷ bs) zero k h (suc v) l e = e
 set-stays (b ∷ bs) (suc s) k h zero l e = e
 set-stays (b ∷ bs) (suc s) k h (suc v) l e = set-stays bs s k h v l e
 
-set-back : (bodies : Bodies) (s : ℕ) (k : Layout) (v : ℕ) (l : Layout) → layout_at (set bodies s (Complete k)) v ≡ Some l → (layout_at bodies v ≡ Some l) ⊎ (k ≡ l)
+set-back : (bodies : Bodies) (s : ℕ) (k : Layout) (v : ℕ) (l : Layout) → layout_at (set bodies s (Complete k)) v ≡ Some l → (layout_at bodies v ≡ Some l) ⊎ ((v ≡ s) × (k ≡ l))
 set-back [] s k v l e = inl e
-set-back (b ∷ bs) zero k zero l e = inr (cc)
+set-back (b ∷ bs) zero k zero l e = inr (refl, cc)
 set-back (b ∷ bs) zero k (suc v) l e = inl e
 set-back (b ∷ bs) (suc s) k zero l e = inl e
-set-back (b ∷ bs) (suc s) k (suc v) l e = set-back bs s k v l e
+set-back (b ∷ bs) (suc s) k (suc v) l e = elim (set-back bs s k v l e) [ inl was ↦ inl was | inr is ↦ inr (ap suc is.0, is.1) ]
 
 pub keeps-set : (bodies : Bodies) (s : ℕ) (k : Layout) → slice_get bodies s ≡ Some Incomplete → Keeps bodies (set bodies s (Complete k))
 keeps-set bodies s k h = keeps bodies (set bodies s (Complete k)) (set-stays bodies s k h)
 
+completed-set : (bodies : Bodies) (s : ℕ) (k : Layout) → slice_get bodies s ≡ Some Incomplete → completed (set bodies s (Complete k)) ≡ suc (completed bodies)
+completed-set [] s k h = absurd (cc)
+completed-set (Incomplete ∷ bs) zero k h = refl
+completed-set (Complete j ∷ bs) zero k h = absurd (cc)
+completed-set (Incomplete ∷ bs) (suc s) k h = completed-set bs s k h
+completed-set (Complete j ∷ bs) (suc s) k h = ap suc (completed-set bs s k h)
+
+incomplete-at : (bodies : Bodies) (s : ℕ) → slice_get bodies s ≡ Some Incomplete → layout_at bodies s ≡ None
+incomplete-at bodies s h = rw h refl
+
+-- the times, with struct s completed now
+abbrev marked : (ℕ → ℕ) → ℕ → ℕ → ℕ → ℕ
+marked time s now v = if v == s then now else time v
+
+marked-same : (time : ℕ → ℕ) (s now : ℕ) → marked time s now s ≡ now
+marked-same time s now = grind arith
+
+marked-other : (time : ℕ → ℕ) (s now v : ℕ) → v ≢ s → marked time s now v ≡ time v
+marked-other time s now v h = grind arith
+
+other : (bodies : Bodies) (s v : ℕ) → layout_at bodies s ≡ None → IsSome (layout_at bodies v) → v ≢ s
+other bodies s v n h e = let none : layout_at bodies v ≡ None = rw e n in absurd (cc (ap is_some none))
+
+-- what is complete was completed at a time before now
+done_before : (bodies : Bodies) (time : ℕ → ℕ) → CompletedInTurn bodies time → (v : ℕ) → IsSome (layout_at bodies v) → time v < completed bodies
+done_before bodies time t v h = by (layout_at bodies v) refl h
+  where
+    by : (o : Option Layout) → layout_at bodies v ≡ o → IsSome o → time v < completed bodies
+    by None e h = absurd (cc)
+    by (Some l) e h = t.counted v l e
+
+held_before : (bodies : Bodies) (time : ℕ → ℕ) (s end : ℕ) → layout_at bodies s ≡ None → (o : Option ℕ) → IfSome o (λ u. IsSome (layout_at bodies u)) → IfSome o (λ u. time u < end) →
+    IfSome o (λ u. marked time s (completed bodies) u < end)
+held_before bodies time s end n None c h = h
+held_before bodies time s end n (Some u) c h = rw (marked-other time s (completed bodies) u (other bodies s u n c)) h
+
+held_done : (bodies : Bodies) (time : ℕ → ℕ) → CompletedInTurn bodies time → (o : Option ℕ) → IfSome o (λ u. IsSome (layout_at bodies u)) → IfSome o (λ u. time u < completed bodies)
+held_done bodies time t None c = c
+held_done bodies time t (Some u) c = done_before bodies time t u c
+
+in_turn-set : (bodies : Bodies) (s : ℕ) (k : Layout) (time : ℕ → ℕ) → slice_get bodies s ≡ Some Incomplete → AreSound bodies → IsSound bodies k → CompletedInTurn bodies time → CompletedInTurn (set bodies s (Complete k)) (marked time s (completed bodies))
+in_turn-set bodies s k time h are_sound sound t = record {
+  counted = λ v l e. rw (completed-set bodies s k h) (elim (set-back bodies s k v l e) [
+    | inl was ↦ let before = t.counted v l was in rw (marked-other time s (completed bodies) v (away v l was)) (omega arith)
+    | inr is ↦ rw (is.0, marked-same time s (completed bodies)) (omega arith)
+  ]);
+  earlier = λ v l e. elim (set-back bodies s k v l e) [
+    | inl was ↦ rw (marked-other time s (completed bodies) v (away v l was))
+        (λ i d b. held_before bodies time s (time v) none _ (members-complete bodies l.members 0 l.size (are_sound v l was).in_order i d b) (t.earlier v l was i d b))
+    | inr is ↦ rw (is.0, marked-same time s (completed bodies), ← is.1)
+        (λ i d b. let complete = members-complete bodies k.members 0 k.size sound.in_order i d b in held_before bodies time s (completed bodies) none _ complete (held_done bodies time t _ complete))
+  ];
+}
+  where
+    none : layout_at bodies s ≡ None
+    none = incomplete-at bodies s h
+
+    away : (v : ℕ) (l : Layout) → layout_at bodies v ≡ Some l → v ≢ s
+    away v l e = other bodies s v none (ap is_some e)
+
 pub table-set : (bodies : Bodies) (s : ℕ) (k : Layout) → slice_get bodies s ≡ Some Incomplete → IsTable bodies → IsSound bodies k → IsTable (set bodies s (Complete k))
-table-set bodies s k h t sound v l e =
-    elim (set-back bodies s k v l e) [
-      | inl was ↦ sound_stays bodies (set bodies s (Complete k)) (keeps-set bodies s k h) l (t v l was)
-      | inr is ↦ sound_stays bodies (set bodies s (Complete k)) (keeps-set bodies s k h) l (subst (IsSound bodies) is sound)
-    ]
+table-set bodies s k h t sound = record {
+  sound = λ v l e. elim (set-back bodies s k v l e) [
+    | inl was ↦ sound_stays bodies (set bodies s (Complete k)) (keeps-set bodies s k h) l (t.sound v l was)
+    | inr is ↦ sound_stays bodies (set bodies s (Complete k)) (keeps-set bodies s k h) l (subst (IsSound bodies) is.1 sound)
+  ];
+  times = (marked t.times.0 s (completed bodies), in_turn-set bodies s k t.times.0 h t.sound sound t.times.1);
+}
+
+pub table-empty : IsTable []
+table-empty = record {
+  sound = λ s l e. absurd (cc);
+  times = (λ s. 0, record { counted = λ s l e. absurd (cc); earlier = λ s l e. absurd (cc) });
+}
 
 pub table-push_if : (b : Bool) (bodies : Bodies) → IsTable bodies → IsTable (if b then bodies ++ Incomplete ∷ [] else bodies)
 table-push_if true bodies t = table-push bodies t

@@ -14,7 +14,7 @@ use Rattle.c_types.specs.declared.ctype.Layout.{Layout}
 use Rattle.c_types.specs.declared.ctype.Member.{Member}
 use Rattle.c_types.specs.Layouts.{Declared, rounded, align_or_one, size_or_none, placed, end_of_last, strictest, layout_of}
 use Rattle.c_types.specs.Sizes.{Bodies, alignment, align_step, layout_at, whole_size, at_most_limit, size_in}
-use Rattle.c_types.specs.Tables.{InOrder, IsSound, IsTable}
+use Rattle.c_types.specs.Tables.{InOrder, IsSound, AreSound}
 
 -- rounding up: at or after, and by less than the alignment
 pub rounded-least : (end align : ℕ) → 1 ≤ align → end ≤ rounded end align
@@ -70,7 +70,7 @@ aligned_struct : (bodies : Bodies) (l : Option Layout) → ((k : Layout) → l �
 aligned_struct bodies None h = (omega arith, omega arith)
 aligned_struct bodies (Some k) h = ((h k refl).some_align, (h k refl).most_align)
 
-aligned_step : (bodies : Bodies) → IsTable bodies → (y : Shown (IsAligned bodies) Any) →
+aligned_step : (bodies : Bodies) → AreSound bodies → (y : Shown (IsAligned bodies) Any) →
     let a = align_step bodies (answered (IsAligned bodies) Any (Option ℕ) (Unit {0}) (alignment bodies) (λ p. tt) y) in
     (1 ≤ unwrap_or a 1) × (unwrap_or a 1 ≤ 8)
 aligned_step bodies t c.Void = (omega arith, omega arith)
@@ -86,13 +86,13 @@ aligned_step bodies t c.Descriptor = (omega arith, omega arith)
 aligned_step bodies t (c.Cdesc r) = (omega arith, omega arith)
 aligned_step bodies t (c.Const x) = x.1
 
-pub aligned : (bodies : Bodies) → IsTable bodies → (kind : CType) → IsAligned bodies kind
+pub aligned : (bodies : Bodies) → AreSound bodies → (kind : CType) → IsAligned bodies kind
 aligned bodies t = by_layers (IsAligned bodies) Any
     (λ y. subst (λ a. (1 ≤ unwrap_or a 1) × (unwrap_or a 1 ≤ 8)) (sym (fold-bare (IsAligned bodies) Any (Option ℕ) (Unit {0}) (align_step bodies) (λ p. tt) y)) (aligned_step bodies t y))
     (λ y. tt)
 
 -- nothing ends past the last member's end
-pub end_of_last-least : (bodies : Bodies) → IsTable bodies → (end : ℕ) (members : Declared) → end ≤ end_of_last bodies end members
+pub end_of_last-least : (bodies : Bodies) → AreSound bodies → (end : ℕ) (members : Declared) → end ≤ end_of_last bodies end members
 end_of_last-least bodies t end [] = omega arith
 end_of_last-least bodies t end (m ∷ ms) =
     let a : ℕ = align_or_one bodies m.1 in
@@ -102,12 +102,12 @@ pub strictest-least : (bodies : Bodies) (align : ℕ) (members : Declared) → a
 strictest-least bodies align [] = omega arith
 strictest-least bodies align (m ∷ ms) = omega (arith, strictest-least bodies (max align (align_or_one bodies m.1)) ms)
 
-pub laying-within : (bodies : Bodies) → IsTable bodies → (members : Declared) (done : List Member) (end align : ℕ) (rest : Declared) → Laying bodies members done end align rest → (layout_of bodies members).size ≤ 2 ^ 62 → end ≤ 2 ^ 62
+pub laying-within : (bodies : Bodies) → AreSound bodies → (members : Declared) (done : List Member) (end align : ℕ) (rest : Declared) → Laying bodies members done end align rest → (layout_of bodies members).size ≤ 2 ^ 62 → end ≤ 2 ^ 62
 laying-within bodies t members done end align rest l h =
     omega (arith, l.ends, end_of_last-least bodies t end rest, rounded-least (end_of_last bodies 0 members) (strictest bodies 1 members) (strictest-least bodies 1 members), h)
 
 -- the place of the next member, and its end
-pub laying-next : (bodies : Bodies) → IsTable bodies → (members : Declared) (done : List Member) (end align : ℕ) (m : ℕ × CType) (rest : Declared) → Laying bodies members done end align (m ∷ rest) → (layout_of bodies members).size ≤ 2 ^ 62 →
+pub laying-next : (bodies : Bodies) → AreSound bodies → (members : Declared) (done : List Member) (end align : ℕ) (m : ℕ × CType) (rest : Declared) → Laying bodies members done end align (m ∷ rest) → (layout_of bodies members).size ≤ 2 ^ 62 →
     rounded end (align_or_one bodies m.1) + size_or_none bodies m.1 ≤ 2 ^ 62
 laying-next bodies t members done end align m rest l h =
     omega (arith, l.ends, end_of_last-least bodies t (rounded end (align_or_one bodies m.1) + size_or_none bodies m.1) rest, rounded-least (end_of_last bodies 0 members) (strictest bodies 1 members) (strictest-least bodies 1 members), h)
@@ -129,7 +129,7 @@ some_size None h = h
 some_size (Some n) h = refl
 
 -- members that are laid out lie in order
-pub placed_in_order : (bodies : Bodies) → IsTable bodies → (end : ℕ) (members : Declared) (size : ℕ) → All (λ m. IsSome (size_in bodies m.1)) members → end_of_last bodies end members ≤ size → InOrder bodies end (placed bodies end members) size
+pub placed_in_order : (bodies : Bodies) → AreSound bodies → (end : ℕ) (members : Declared) (size : ℕ) → All (λ m. IsSome (size_in bodies m.1)) members → end_of_last bodies end members ≤ size → InOrder bodies end (placed bodies end members) size
 placed_in_order bodies t end [] size h l = l
 placed_in_order bodies t end (m ∷ ms) size h l = (
   rounded-least end (align_or_one bodies m.1) (aligned bodies t m.1).0,
@@ -138,11 +138,11 @@ placed_in_order bodies t end (m ∷ ms) size h l = (
   placed_in_order bodies t (rounded end (align_or_one bodies m.1) + size_or_none bodies m.1) ms size (λ k d b. h (suc k) d (omega arith)) l,
 )
 
-pub strictest-most : (bodies : Bodies) → IsTable bodies → (align : ℕ) (members : Declared) → align ≤ 8 → strictest bodies align members ≤ 8
+pub strictest-most : (bodies : Bodies) → AreSound bodies → (align : ℕ) (members : Declared) → align ≤ 8 → strictest bodies align members ≤ 8
 strictest-most bodies t align [] h = h
 strictest-most bodies t align (m ∷ ms) h = let a = aligned bodies t m.1 in strictest-most bodies t (max align (align_or_one bodies m.1)) ms (omega arith)
 
-pub sound_layout : (bodies : Bodies) → IsTable bodies → (members : Declared) → All (λ m. IsSome (size_in bodies m.1)) members → (layout_of bodies members).size ≤ 2 ^ 62 → IsSound bodies (layout_of bodies members)
+pub sound_layout : (bodies : Bodies) → AreSound bodies → (members : Declared) → All (λ m. IsSome (size_in bodies m.1)) members → (layout_of bodies members).size ≤ 2 ^ 62 → IsSound bodies (layout_of bodies members)
 sound_layout bodies t members h l =
     let least = strictest-least bodies 1 members in
     record {
@@ -175,7 +175,7 @@ measuring-step bodies members end align m rest a size l e s some most small = re
 past_limit : (n : ℕ) → 2 ^ 62 < n → None ≡ at_most_limit n
 past_limit n h = grind arith
 
-pub measuring-past : (bodies : Bodies) → IsTable bodies → (members : Declared) (end align : ℕ) (m : ℕ × CType) (rest : Declared) (a size : ℕ) →
+pub measuring-past : (bodies : Bodies) → AreSound bodies → (members : Declared) (end align : ℕ) (m : ℕ × CType) (rest : Declared) (a size : ℕ) →
     Measuring bodies members end align (m ∷ rest) → a ≡ align_or_one bodies m.1 → size ≡ size_or_none bodies m.1 → 2 ^ 62 < rounded end a + size →
     None ≡ at_most_limit (layout_of bodies members).size
 measuring-past bodies t members end align m rest a size l e s past =

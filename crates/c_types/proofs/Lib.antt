@@ -4,5 +4,7 @@ pub mod LayingOut
 pub mod Weights
 pub mod Settling
 pub mod Pairs
+pub mod Held
 pub mod Growing
 pub mod AlikeLaws
+pub mod Depth

@@ -1,5 +1,5 @@
 -- When two types are compatible: C11's relation for types of one file, and the rule for types of two files.
-use Rattle.std.specs.Prelude.{ℕ, ◌==◌, ◌&&◌, Bool, true, false, Option, Some, None, List, [], ◌∷◌, map, min, length, zero, suc}
+use Rattle.std.specs.Prelude.{◌≡◌, ℕ, ◌==◌, ◌&&◌, Bool, true, false, Option, Some, None, List, [], ◌∷◌, map, min, length, zero, suc}
 use Rattle.jf_base.specs.declared.numbers.Width.{Width}
 use Rattle.jf_base.specs.Numbers.{size_of_width}
 use Rattle.c_types.specs.declared.ctype.CType.{CType, CType-F, fold-CType, out-CType}
@@ -122,7 +122,7 @@ layouts_alike same None _ = true
 layouts_alike same (Some l) None = true
 layouts_alike same (Some l) (Some k) = members_alike same l.members k.members
 
--- Two structs of two files: behind a pointer any two are alike, and elsewhere those whose members are. The number says how deep structs may still hold structs; below that nothing is compared.
+-- Two structs of two files: behind a pointer any two are alike, and elsewhere those whose members are. The number says how deep structs may still hold structs; below that nothing is compared, but by the law `structs_compare_by_members` no two structs of two tables hold structs so deep.
 abbrev pub structs_across : ℕ → Bodies → Bodies → Bool → ℕ → ℕ → Bool
 structs_across depth first second true s t = true
 structs_across zero first second false s t = true
@@ -138,7 +138,7 @@ abbrev pub rule_within : ℕ → Bodies → Option Bodies → Rule
 rule_within depth first None = in_one_file
 rule_within depth first (Some second) = across_files depth first second
 
--- a struct is laid out after those that it holds, so structs of two files hold structs no deeper than either file has structs
+-- A struct is completed after those that it holds, so it holds structs no deeper than its file has structs. By the laws `structs_compare_by_members` and `one_relation_compares_by_members` this is the one relation that compares two structs by their members and itself, so the depth is never reached.
 abbrev pub rule_for : Bodies → Option Bodies → Rule
 rule_for first None = in_one_file
 rule_for first (Some second) = across_files (min (length first) (length second)) first second
@@ -146,3 +146,15 @@ rule_for first (Some second) = across_files (min (length first) (length second))
 -- whether a type of the first file and one of the same or of another file are compatible
 abbrev pub are_compatible : Bodies → CType → Option Bodies → CType → Bool
 are_compatible first a other b = compatible_by (rule_for first other) a b
+
+-- behind a pointer any two structs are alike, and elsewhere those that a relation between the structs of two files says
+abbrev pub structs_by : (ℕ → ℕ → Bool) → Bool → ℕ → ℕ → Bool
+structs_by same true s t = true
+structs_by same false s t = same s t
+
+abbrev pub across_by : (ℕ → ℕ → Bool) → Rule
+across_by same = record { enums = λ m n. true; structs = structs_by same }
+
+-- 6.2.7p1: it relates two structs where one is incomplete or both have as many members that are compatible by it in order
+abbrev pub ComparesByMembers : Bodies → Bodies → (ℕ → ℕ → Bool) → Type 0
+ComparesByMembers first second same = (s t : ℕ) → same s t ≡ layouts_alike (compatible_by (across_by same)) (layout_at first s) (layout_at second t)

@@ -14,6 +14,9 @@ mod tests;
 pub use compatibility::compatible;
 pub use copy::{copy_proto, copy_type, same_proto, same_type};
 pub use ctype::{CType, Layout, Member, Proto, StructBody};
-pub use laws::{compatible_either_way, compatible_with_itself};
+pub use laws::{
+    compatible_either_way, compatible_with_itself, one_relation_compares_by_members,
+    structs_compare_by_members,
+};
 pub use size::{align_of, size_of};
 pub use table::Types;

@@ -2,7 +2,7 @@ ghost use Rattle.std.specs.Prelude.{◌≡◌, ◌+◌, ◌^◌, ◌≤◌, [], 
 ghost use Rattle.std.specs.Option.{option_copied};
 ghost use Rattle.c_types.specs.Layouts.{align_or_one, layout_of, member_among, member_at, rounded, size_or_none};
 ghost use Rattle.c_types.specs.Sizes.{at_most_limit, layout_at, size_in};
-ghost use Rattle.c_types.specs.Tables.{IsSound, Keeps};
+ghost use Rattle.c_types.specs.Tables.{IsSound, IsTable, Keeps};
 
 use crate::ctype::{CType, Layout, Member, StructBody};
 use crate::size::{LARGEST, align_of, size_of};
@@ -58,6 +58,13 @@ impl Types {
             None => None,
             Some(layout) => Some(layout),
         }
+    }
+
+    /// A law: each complete struct is sound, and was completed after those that its members hold.
+    pub fn completed_in_order(&self)
+        ensures { IsTable self.now }
+    {
+        let _table = &self.bodies;
     }
 
     /// A new struct, whose members aren't known yet. Where there is no memory, or there are 2^32 structs already, the table stays.
