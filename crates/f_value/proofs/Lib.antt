@@ -3,3 +3,9 @@ pub mod Padding
 pub mod Trimming
 pub mod OrderLaws
 pub mod ModuloLaws
+pub mod Patterns
+pub mod BitLaws
+pub mod ShiftLaws
+pub mod PowerLaws
+pub mod RemainderLaws
+pub mod TextLaws

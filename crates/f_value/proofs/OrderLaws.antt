@@ -5,7 +5,7 @@ use Rattle.std.specs.declared.cmp.Ordering.TheVariants.{Less, Equal, Greater}
 use Rattle.std.specs.Ordering.{nat_cmp, ordering_then, ordering_reverse}
 use Rattle.f_value.specs.Texts.{padded_order}
 
-nat_cmp-self : (x : ℕ) → nat_cmp x x ≡ Equal
+pub nat_cmp-self : (x : ℕ) → nat_cmp x x ≡ Equal
 nat_cmp-self x = grind arith
 
 nat_cmp-flip : (x y : ℕ) → nat_cmp y x ≡ ordering_reverse (nat_cmp x y)

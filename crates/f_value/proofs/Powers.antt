@@ -59,7 +59,7 @@ half_most W8 = lit≤ tt
 below : (a h : ℕ) → suc h < suc a → nat_le a h ≡ false
 below a h l = grind arith
 
-far : (h : ℕ) (v : ℤ) → 1 ≤ h → h < unsigned_abs v → (le_z (neg_ℤ (pos h)) v && lt_z v (pos h)) ≡ false
+pub far : (h : ℕ) (v : ℤ) → 1 ≤ h → h < unsigned_abs v → (le_z (neg_ℤ (pos h)) v && lt_z v (pos h)) ≡ false
 far zero v s l = absurd (omega arith)
 far (suc h) (pos a) s l = grind arith
 far (suc h) (negsuc a) s l = let no : nat_le a h ≡ false = below a h l in rw no refl
@@ -77,7 +77,7 @@ power_most a n h k =
     let small : 2 ^ 63 < 2 ^ 127 = lit< tt in
     omega (arith, one, two, small)
 
-not_unit : (n : ℕ) → nat_le n 1 ≡ false → 2 ≤ n
+pub not_unit : (n : ℕ) → nat_le n 1 ≡ false → 2 ≤ n
 not_unit n h = grind arith
 
 pub power_too_large : (a : ℤ) (n kind : ℕ) → nat_le (unsigned_abs a) 1 ≡ false → 127 ≤ n → out_of_kind ≡ in_kind (power a n) kind
@@ -105,7 +105,7 @@ inverse_none a (suc n) kind h k =
     let more : 2 ≤ unsigned_abs a ^ suc n = rw pow-suc (omega (arith, mul-le-mul_left (unsigned_abs a) some, mul_comm (unsigned_abs a) (unsigned_abs a ^ n))) in
     inverse (power a (suc n)) kind (rw (abs_power a (suc n)) more)
 
-one_power : (n : ℕ) → 1 ^ n ≡ 1
+pub one_power : (n : ℕ) → 1 ^ n ≡ 1
 one_power zero = pow-zero 1
 one_power (suc n) = rw (pow-suc, one_power n) refl
 

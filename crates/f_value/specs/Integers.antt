@@ -1,4 +1,4 @@
--- Operators on INTEGER operands, over numbers without bound (10.1.5.2 and 10.1.5.5.2).
+-- Operators on INTEGER operands, over numbers without bound (10.1.5.2.1 and 10.1.5.5.1).
 use Rattle.std.specs.Prelude.{ℕ, ℤ, pos, negsuc, ◌+ℤ◌, ◌-ℤ◌, ◌*ℤ◌, ◌&&◌, ◌||◌, Bool, Option, Some, None, unsigned_abs, int_div, zero, suc, if◌then◌else◌, nat_eq}
 use Rattle.std.specs.Int.Signed.{le_z, lt_z}
 use Rattle.f_value.specs.declared.value.Did.{Did}

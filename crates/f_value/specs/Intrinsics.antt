@@ -1,5 +1,5 @@
 -- The elemental intrinsic functions on scalar arguments (16.9).
-use Rattle.std.specs.Prelude.{ℕ, ℤ, pos, negsuc, neg_ℤ, ◌+ℤ◌, ◌-ℤ◌, ◌*◌, ◌/◌, ◌^◌, ◌==◌, ◌&&◌, ◌||◌, bit_and, bit_or, bit_xor, nat_eq, nat_le, Bool, true, false, Option, Some, None, List, [], ◌∷◌, length, unsigned_abs, int_rem, suc, if◌then◌else◌}
+use Rattle.std.specs.Prelude.{ℕ, ℤ, pos, negsuc, neg_ℤ, ◌+ℤ◌, ◌-ℤ◌, ◌*◌, ◌/◌, ◌^◌, ◌==◌, ◌&&◌, ◌||◌, bit_and, bit_or, bit_xor, nat_eq, nat_le, Bool, true, false, Option, Some, None, List, [], ◌∷◌, length, take, unsigned_abs, int_rem, suc, if◌then◌else◌}
 use Rattle.std.specs.Int.Signed.{lt_z}
 use Rattle.std.specs.Int.{int_max, int_min}
 use Rattle.std.specs.Option.{option_map}
@@ -23,11 +23,11 @@ lengths_differ = Violation (record { 0 = 916 })
 abbrev pub no_character : Did FValue
 no_character = Violation (record { 0 = 927 })
 
--- 16.9.128: MOD has the sign of A
+-- 16.9.135: MOD has the sign of A
 abbrev pub remainder : ℤ → ℤ → ℕ → Did FValue
 remainder a p kind = if is_zero p then by_zero else in_kind (int_rem a p) kind
 
--- 16.9.130: MODULO is the remainder that has the sign of P
+-- 16.9.136: MODULO is the remainder that has the sign of P
 abbrev pub differs_in_sign : ℤ → ℤ → Bool
 differs_in_sign r p = (lt_z r (pos 0) && lt_z (pos 0) p) || (lt_z (pos 0) r && lt_z p (pos 0))
 
@@ -46,20 +46,24 @@ bits_of v kind = residue v (width_of_kind kind)
 abbrev pub of_bits : ℕ → ℕ → Did FValue
 of_bits n kind = Done (Int (wrapped (pos n) (width_of_kind kind) true) kind)
 
--- 16.9.111: ISHFT shifts to the left where SHIFT is positive, else to the right, and fills with zeros
+-- 16.9.103: ISHFT shifts to the left where SHIFT is positive, else to the right, and fills with zeros
 abbrev pub shifted : ℤ → ℤ → ℕ → Did FValue
 shifted v (pos s) kind = if nat_le s (8 * size_of_width (width_of_kind kind)) then of_bits (bits_of v kind * 2 ^ s) kind else shift_too_far
 shifted v (negsuc s) kind = if nat_le (suc s) (8 * size_of_width (width_of_kind kind)) then of_bits (bits_of v kind / 2 ^ suc s) kind else shift_too_far
 
--- 16.9.45: the character of a number
+-- 16.9.44: the character of a number
 abbrev pub character : ℤ → Did FValue
 character (pos n) = if nat_le n 255 then Done (Text (n ∷ [])) else no_character
 character (negsuc n) = no_character
 
--- 16.9.116: the length without trailing blanks
+-- 16.9.113: the length without trailing blanks
 abbrev pub len_trim : List ℕ → ℕ
 len_trim [] = 0
 len_trim (x ∷ xs) = if (x == 32) && (len_trim xs == 0) then 0 else suc (len_trim xs)
+
+-- 16.9.195: a text without trailing blanks, as TRIM gives it
+abbrev pub trimmed : List ℕ → List ℕ
+trimmed s = take (len_trim s) s
 
 abbrev pub is_kind : ℕ → Bool
 is_kind kind = (kind == 1) || (kind == 2) || (kind == 4) || (kind == 8)

@@ -3,3 +3,6 @@ pub mod Values
 pub mod Operators
 pub mod Texts
 pub mod Intrinsics
+pub mod Bits
+pub mod Answers
+pub mod Laws

@@ -10,7 +10,7 @@ use Rattle.f_value.specs.Integers.{integer_of}
 use Rattle.f_value.specs.Texts.{text_of}
 use Rattle.f_value.specs.Values.{in_kind}
 
--- 10.1.5.4.2: two truth values by an operator
+-- 10.1.5.4.1: two truth values by an operator
 abbrev pub logical_of : FOp → Bool → Bool → ℕ → Option (Did FValue)
 logical_of op.And a b kind = Some (Done (Logical (a && b) kind))
 logical_of op.Or a b kind = Some (Done (Logical (a || b) kind))

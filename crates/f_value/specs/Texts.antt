@@ -1,5 +1,5 @@
--- Operators on CHARACTER operands (10.1.5.3 and 10.1.5.5.2).
-use Rattle.std.specs.Prelude.{ℕ, Option, Some, None, List, [], ◌∷◌, ◌++◌}
+-- Operators on CHARACTER operands (10.1.5.3.1 and 10.1.5.5.1).
+use Rattle.std.specs.Prelude.{ℕ, zero, suc, Option, Some, None, List, [], ◌∷◌, ◌++◌}
 use Rattle.std.specs.declared.cmp.Ordering.{Ordering}
 use Rattle.std.specs.declared.cmp.Ordering.TheVariants.{Equal}
 use Rattle.std.specs.Ordering.{is_eq, is_ge, is_gt, is_le, is_lt, is_ne, nat_cmp, ordering_then}
@@ -17,6 +17,12 @@ padded_order [] [] = Equal
 padded_order [] (y ∷ ys) = ordering_then (nat_cmp 32 y) (padded_order [] ys)
 padded_order (x ∷ xs) [] = ordering_then (nat_cmp x 32) (padded_order xs [])
 padded_order (x ∷ xs) (y ∷ ys) = ordering_then (nat_cmp x y) (padded_order xs ys)
+
+-- a text with blanks behind it, to a length
+abbrev pub padded : ℕ → List ℕ → List ℕ
+padded zero s = s
+padded (suc n) [] = 32 ∷ padded n []
+padded (suc n) (x ∷ xs) = x ∷ padded n xs
 
 -- two texts by an operator; None where the operator isn't one of texts
 abbrev pub text_of : FOp → List ℕ → List ℕ → Option (Did FValue)

@@ -1,5 +1,5 @@
 use Rattle.f_value.proofs.ModuloLaws.{modulo_down, modulo_up}
-use Rattle.f_value.proofs.laws.modulo_has_the_sign_of_p.Goals as goal
+use Rattle.f_value.proofs.laws.remainders.modulo_has_the_sign_of_p.Goals as goal
 
 pub returns-clause-positive : goal.returns-clause-positive
 returns-clause-positive c = modulo_up c.args.a c.args.p

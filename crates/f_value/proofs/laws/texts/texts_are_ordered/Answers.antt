@@ -1,5 +1,5 @@
 use Rattle.f_value.proofs.OrderLaws.{order_self, order_flip}
-use Rattle.f_value.proofs.laws.texts_are_ordered.Goals as goal
+use Rattle.f_value.proofs.laws.texts.texts_are_ordered.Goals as goal
 
 pub returns-clause-itself : goal.returns-clause-itself
 returns-clause-itself c = order_self c.args.s.now
