@@ -6,3 +6,4 @@ pub mod Rows
 pub mod Spreads
 pub mod Packed
 pub mod Strides
+pub mod Quotients

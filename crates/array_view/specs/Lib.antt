@@ -3,3 +3,4 @@ pub mod Elements
 pub mod Contiguous
 pub mod Sections
 pub mod Strides
+pub mod Laws

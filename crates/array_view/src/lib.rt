@@ -12,7 +12,7 @@ mod view;
 
 pub use axes::{Axes, AxisDim};
 pub use contiguous::is_contiguous;
-pub use laws::strides_lead_to_the_elements;
+pub use laws::{strides_lead_to_the_elements, triplets_end_at_the_last};
 pub use offsets::section;
 pub use subscript::Sub;
 pub use view::ArrayView;
