@@ -1,6 +1,8 @@
-ghost use Rattle.std.specs.Prelude.{◌≡◌, IfOk, IsSome, [], ◌∷◌};
-ghost use Rattle.f_value.specs.Intrinsics.{intrinsic_of};
-ghost use Rattle.f_value.specs.Operators.{binary_of};
+mod numbers;
+mod rows;
+mod texts;
+
+ghost use Rattle.std.specs.Prelude.{◌≡◌, IfOk};
 
 use crate::{Did, FIntrinsic, FOp, FValue, binary, intrinsic, unary};
 use jf_base::List;
@@ -14,6 +16,12 @@ fn int(value: i128, kind: u8) -> FValue
     FValue::Int { value, kind }
 }
 
+fn truth(value: bool) -> FValue
+    ensures { result ≡ FValue.Logical value 4 }
+{
+    FValue::Logical { value, kind: 4 }
+}
+
 fn text(alloc: Global, s: &str) -> Result<FValue, Fail>
     ensures { IfOk result (λ v. v ≡ FValue.Text s.now) }
 {
@@ -21,132 +29,131 @@ fn text(alloc: Global, s: &str) -> Result<FValue, Fail>
     Ok(FValue::Text(List::from_vec(bytes)))
 }
 
-/// What an answer shows: a number, or the number of a violation's rule with a minus, or the count and the first of a text's bytes.
-fn shown(answer: &Did<FValue>) -> i128 {
-    match answer {
-        Did::Done(FValue::Int { value, .. }) => *value,
-        Did::Done(FValue::Logical { value, .. }) => { if *value { 1 } else { 0 } }
-        Did::Done(FValue::Text(bytes)) => match bytes.as_slice() {
-            [] => 0,
-            [first, ..] => bytes.len() as i128 * 1000 + *first as i128,
-        },
-        Did::Violation(tag) => 0 - tag.0 as i128,
-        Did::Memory => 0 - 1_000_000,
+/// Whether a number is the one that a row of a table writes.
+fn is_written(value: i128, word: &str) -> bool {
+    match word.parse::<i64>() {
+        Ok(number) => value == i128::from(number),
+        Err(_) => false,
     }
 }
 
-/// Two numbers of kind 4 by an operator.
-fn pair(alloc: Global, op: FOp, a: i128, b: i128) -> i128
-    requires { IsSome (binary_of op (FValue.Int a 4) (FValue.Int b 4)) }
-{
-    shown(&binary(alloc, op, &int(a, 4), &int(b, 4)))
+/// Whether an answer is what a row of a table writes: a number, 1 or 0 for a truth value, or the word of a violation.
+fn says(answer: &Did<FValue>, word: &str) -> bool {
+    match answer {
+        Did::Done(FValue::Int { value, .. }) => is_written(*value, word),
+        Did::Done(FValue::Logical { value, .. }) => is_written(if *value { 1 } else { 0 }, word),
+        Did::Done(FValue::Text(_)) | Did::Memory => false,
+        Did::Violation(tag) => match tag.0 {
+            908 => word == "kind",
+            909 => word == "zero",
+            910 => word == "shift",
+            916 => word == "lengths",
+            927 => word == "byte",
+            _ => false,
+        },
+    }
+}
+
+/// Whether an answer is a text of these bytes.
+fn is_text(answer: &Did<FValue>, bytes: &[u8]) -> bool {
+    match answer {
+        Did::Done(FValue::Text(found)) => found.as_slice() == bytes,
+        _ => false,
+    }
 }
 
 #[test]
-fn operators_on_numbers(rt: HostRuntime) {
+fn truth_values(rt: HostRuntime) {
     let alloc = rt.alloc();
-    assert_eq!(rt; pair(alloc, FOp::Divide, -7, 2), -3);
-    assert_eq!(rt; pair(alloc, FOp::Divide, 7, 0), -909);
-    assert_eq!(rt; pair(alloc, FOp::Divide, -2147483648, -1), -908);
-    assert_eq!(rt; pair(alloc, FOp::Multiply, 65536, 32768), -908);
-    assert_eq!(rt; pair(alloc, FOp::Subtract, -2147483647, 1), -2147483648);
-    assert_eq!(rt; pair(alloc, FOp::GreaterEqual, -3, 2), 0);
-    assert_eq!(rt; pair(alloc, FOp::Unequal, -3, 2), 1);
-    assert_eq!(rt;
-        shown(&binary(alloc, FOp::Add, &int(127, 1), &int(1, 2))),
-        128
+    for (a, b, and, or, eqv, neqv) in [
+        (false, false, "0", "0", "1", "0"),
+        (false, true, "0", "1", "0", "1"),
+        (true, false, "0", "1", "0", "1"),
+        (true, true, "1", "1", "1", "0"),
+    ] {
+        assert!(rt; says(&binary(alloc, FOp::And, &truth(a), &truth(b)), and));
+        assert!(rt; says(&binary(alloc, FOp::Or, &truth(a), &truth(b)), or));
+        assert!(rt; says(&binary(alloc, FOp::Eqv, &truth(a), &truth(b)), eqv));
+        assert!(rt; says(&binary(alloc, FOp::Neqv, &truth(a), &truth(b)), neqv));
+    }
+    assert!(rt; says(&unary(FOp::Not, &truth(true)), "0"));
+    assert!(rt; says(&unary(FOp::Add, &int(-7, 2)), "-7"));
+}
+
+#[test]
+fn numbers_are_characters(rt: HostRuntime) -> Result<(), Fail> {
+    let alloc = rt.alloc();
+    assert!(rt; is_text(&intrinsic(alloc, FIntrinsic::Char, &[int(65, 4)]), b"A"));
+    assert!(rt; is_text(&intrinsic(alloc, FIntrinsic::Achar, &[int(255, 2)]), &[255]));
+    assert!(rt; is_text(&intrinsic(alloc, FIntrinsic::Char, &[int(0, 1)]), &[0]));
+    assert!(rt; says(&intrinsic(alloc, FIntrinsic::Char, &[int(256, 4)]), "byte"));
+    assert!(rt; says(&intrinsic(alloc, FIntrinsic::Achar, &[int(-1, 4)]), "byte"));
+    assert!(rt;
+        says(
+            &intrinsic(alloc, FIntrinsic::Int, &[int(2147483648, 8)]),
+            "kind"
+        )
     );
-    assert_eq!(rt; shown(&unary(FOp::Subtract, &int(-128, 1))), -908);
-}
-
-#[test]
-fn powers(rt: HostRuntime) {
-    let alloc = rt.alloc();
-    assert_eq!(rt; pair(alloc, FOp::Power, 2, 30), 1073741824);
-    assert_eq!(rt; pair(alloc, FOp::Power, 2, 31), -908);
-    assert_eq!(rt; pair(alloc, FOp::Power, -2, 31), -2147483648);
-    assert_eq!(rt; pair(alloc, FOp::Power, 0, 0), 1);
-    assert_eq!(rt; pair(alloc, FOp::Power, 0, -1), -909);
-    assert_eq!(rt; pair(alloc, FOp::Power, 3, -1), 0);
-    assert_eq!(rt; pair(alloc, FOp::Power, -1, -3), -1);
-    assert_eq!(rt; pair(alloc, FOp::Power, -1, 2147483647), -1);
-    assert_eq!(rt; pair(alloc, FOp::Power, 2, 2147483647), -908);
-}
-
-/// A function of two numbers.
-fn two(alloc: Global, name: FIntrinsic, a: i128, b: i128, kind: u8) -> i128
-    requires { IsSome (intrinsic_of name (FValue.Int a kind ∷ FValue.Int b kind ∷ [])) }
-{
-    shown(&intrinsic(alloc, name, &[int(a, kind), int(b, kind)]))
-}
-
-#[test]
-fn remainders(rt: HostRuntime) {
-    let alloc = rt.alloc();
-    assert_eq!(rt; two(alloc, FIntrinsic::Mod, -8, 5, 4), -3);
-    assert_eq!(rt; two(alloc, FIntrinsic::Mod, 8, -5, 4), 3);
-    assert_eq!(rt; two(alloc, FIntrinsic::Modulo, -8, 5, 4), 2);
-    assert_eq!(rt; two(alloc, FIntrinsic::Modulo, 8, -5, 4), -2);
-    assert_eq!(rt; two(alloc, FIntrinsic::Modulo, -8, -5, 4), -3);
-    assert_eq!(rt; two(alloc, FIntrinsic::Mod, 1, 0, 4), -909);
-    assert_eq!(rt; two(alloc, FIntrinsic::Max, 2, -9, 4), 2);
-    assert_eq!(rt; two(alloc, FIntrinsic::Min, 2, -9, 4), -9);
-}
-
-#[test]
-fn bits(rt: HostRuntime) {
-    let alloc = rt.alloc();
-    assert_eq!(rt; two(alloc, FIntrinsic::Iand, -2, 7, 1), 6);
-    assert_eq!(rt; two(alloc, FIntrinsic::Ior, 5, 3, 4), 7);
-    assert_eq!(rt; two(alloc, FIntrinsic::Ieor, -1, 3, 2), -4);
-    assert_eq!(rt; two(alloc, FIntrinsic::Ishft, 3, 1, 4), 6);
-    assert_eq!(rt; two(alloc, FIntrinsic::Ishft, -1, 7, 1), -128);
-    assert_eq!(rt; two(alloc, FIntrinsic::Ishft, -1, -31, 4), 1);
-    assert_eq!(rt; two(alloc, FIntrinsic::Ishft, -1, 64, 8), 0);
-    assert_eq!(rt; two(alloc, FIntrinsic::Ishft, 1, 33, 4), -910);
-    assert_eq!(rt; shown(&intrinsic(alloc, FIntrinsic::Not, &[int(5, 4)])), -6);
-}
-
-/// Two texts by an operator.
-fn texts(alloc: Global, op: FOp, s: &str, t: &str) -> Result<i128, Fail>
-    requires { IsSome (binary_of op (FValue.Text s.now) (FValue.Text t.now)) }
-{
-    let a = text(alloc, s)?;
-    let b = text(alloc, t)?;
-    Ok(shown(&binary(alloc, op, &a, &b)))
-}
-
-#[test]
-fn operators_on_texts(rt: HostRuntime) -> Result<(), Fail> {
-    let alloc = rt.alloc();
-    assert_eq!(rt; texts(alloc, FOp::Concat, "Ab", "cd")?, 4065);
-    assert_eq!(rt; texts(alloc, FOp::Equal, "ab", "ab  ")?, 1);
-    assert_eq!(rt; texts(alloc, FOp::Less, "ab", "ab!")?, 1);
-    assert_eq!(rt; texts(alloc, FOp::Greater, "b", "ab")?, 1);
-    assert_eq!(rt; texts(alloc, FOp::LessEqual, "ab", "a")?, 0);
+    let letter = text(alloc, "a")?;
+    assert!(rt; says(&intrinsic(alloc, FIntrinsic::Ichar, &[letter]), "97"));
+    let mark = text(alloc, "~")?;
+    assert!(rt; says(&intrinsic(alloc, FIntrinsic::Iachar, &[mark]), "126"));
     Ok(())
 }
 
 #[test]
-fn characters(rt: HostRuntime) -> Result<(), Fail> {
+fn one_of_two_is_chosen(rt: HostRuntime) -> Result<(), Fail> {
     let alloc = rt.alloc();
-    assert_eq!(rt;
-        shown(&intrinsic(alloc, FIntrinsic::Char, &[int(65, 4)])),
-        1065
+    assert!(rt;
+        says(
+            &intrinsic(
+                alloc,
+                FIntrinsic::Merge,
+                &[int(3, 1), int(5, 1), truth(true)]
+            ),
+            "3"
+        )
     );
-    assert_eq!(rt;
-        shown(&intrinsic(alloc, FIntrinsic::Achar, &[int(256, 4)])),
-        -927
+    assert!(rt;
+        says(
+            &intrinsic(
+                alloc,
+                FIntrinsic::Merge,
+                &[truth(true), truth(false), truth(false)]
+            ),
+            "0"
+        )
     );
-    let padded = text(alloc, " A B  ")?;
-    assert_eq!(rt; shown(&intrinsic(alloc, FIntrinsic::LenTrim, &[padded])), 4);
-    assert_eq!(rt;
-        shown(&intrinsic(alloc, FIntrinsic::Int, &[int(300, 8), int(1, 4)])),
-        -908
+    let (one, other) = (text(alloc, "ab")?, text(alloc, "cd")?);
+    assert!(rt;
+        is_text(
+            &intrinsic(alloc, FIntrinsic::Merge, &[one, other, truth(false)]),
+            b"cd"
+        )
     );
-    assert_eq!(rt;
-        shown(&intrinsic(alloc, FIntrinsic::Abs, &[int(-128, 1)])),
-        -908
+    let (short, long) = (text(alloc, "ab")?, text(alloc, "abc")?);
+    assert!(rt;
+        says(
+            &intrinsic(alloc, FIntrinsic::Merge, &[short, long, truth(true)]),
+            "lengths"
+        )
     );
     Ok(())
+}
+
+#[test]
+fn the_greatest_and_the_least_of_many(rt: HostRuntime) {
+    let alloc = rt.alloc();
+    assert!(rt;
+        says(
+            &intrinsic(alloc, FIntrinsic::Max, &[int(2, 4), int(-9, 4), int(7, 4)]),
+            "7"
+        )
+    );
+    assert!(rt;
+        says(
+            &intrinsic(alloc, FIntrinsic::Min, &[int(2, 4), int(-9, 4), int(7, 4)]),
+            "-9"
+        )
+    );
 }
