@@ -1,17 +1,19 @@
 -- Rows of offsets in 64 bits, and the exact offsets that they stand for.
-use Rattle.std.proofs.Common.{◌≡◌, ℕ, ℤ, ◌+◌, ◌<◌, ◌≤◌, ◌+ℤ◌, ◌-ℤ◌, ◌*ℤ◌, List, [], ◌∷◌, ◌++◌, length, map, take, drop, get_or, ◌-◌, FitsSigned, w64, Vec, Global, Bool, true, false, ◌&&◌, append_assoc, append-nil, refl, ap, sym, ◌∙◌, arith}
+use Rattle.std.proofs.Common.{◌≡◌, ℕ, ℤ, ◌+◌, ◌<◌, ◌≤◌, ◌+ℤ◌, ◌-ℤ◌, ◌*ℤ◌, List, [], ◌∷◌, ◌++◌, length, map, take, drop, get_or, ◌-◌, FitsSigned, w64, Vec, Global, Bool, true, false, ◌&&◌, ◌||◌, append_assoc, append-nil, refl, ap, sym, ◌∙◌, arith}
 use Rattle.std.specs.Int.{int_wrap}
-use Rattle.std.specs.List.{All, flat_map, list_all}
+use Rattle.std.specs.List.{All, flat_map, list_all, list_any}
 use Rattle.std.proofs.lemmas.Int.{int_wrap_fits, int_wrap-add_left}
 use Rattle.std.proofs.lemmas.List.{map-append, take_more, take_all}
 use Rattle.std.proofs.lemmas.List.Elements.{All-head, All-tail}
 use Rattle.array_view.specs.declared.axes.AxisDim.{AxisDim}
 use Rattle.array_view.specs.declared.subscript.Sub.{Sub}
+use Rattle.array_view.specs.declared.subscript.Sub.TheVariants.{One, Triplet, Vector}
 use Rattle.array_view.specs.Elements.{choices, element_offset, moved_in_64_bits, rows_in_64_bits, offsets_at, section_offsets}
 use Rattle.array_view.specs.declared.view.ArrayView.{ArrayView}
 use Rattle.array_view.specs.Sections.{IsSection}
-use Rattle.array_view.specs.Subscripts.{are_designated, has_direction, subscripts_of}
+use Rattle.array_view.specs.Subscripts.{are_designated, has_direction, has_no_subscript, subscripts_of}
 use Rattle.array_view.proofs.Choosing.{map-choices}
+use Rattle.array_view.proofs.Counting.{triplet_count-past}
 
 pub row_more : (d : AxisDim) (o : ℤ) (ks start out after : List ℤ) (i : ℕ) (x e : ℤ) → i < length ks → out ≡ start ++ map (moved_in_64_bits d o) (take i ks) → after ≡ out ++ x ∷ [] → x ≡ moved_in_64_bits d o (get_or ks i e) → after ≡ start ++ map (moved_in_64_bits d o) (take (i + 1) ks)
 row_more d o ks start out after i x e h p q r =
@@ -68,10 +70,20 @@ directed [] (s ∷ ss) e h = absurd (omega arith)
 directed (d ∷ ds) [] e h = refl
 directed (d ∷ ds) (s ∷ ss) e h = directed_cons (has_direction s) _ _ _ h (λ k. directed ds ss (omega arith) k)
 
--- some dimension without subscripts, the first
-pub choices_empty_at : (ss : List Sub) (s : Sub) → 1 ≤ length ss → s ≡ get_or ss 0 s → subscripts_of s ≡ [] → choices (map subscripts_of ss) ≡ []
-choices_empty_at [] s h e f = absurd (omega arith)
-choices_empty_at (t ∷ ts) s h e f = choices_empty_first (subscripts_of t) (map subscripts_of ts) (sym (ap subscripts_of e) ∙ f)
+none_occurs : (s : Sub) → has_no_subscript s ≡ true → subscripts_of s ≡ []
+none_occurs (One k) h = absurd (cc)
+none_occurs (Triplet first last stride) h = rw (triplet_count-past first last stride h) refl
+none_occurs (Vector []) h = refl
+none_occurs (Vector (k ∷ ks)) h = absurd (grind arith)
+
+none_at : (s : Sub) (ss : List Sub) (b : Bool) → has_no_subscript s ≡ b → (b || list_any has_no_subscript ss) ≡ true → (list_any has_no_subscript ss ≡ true → choices (map subscripts_of ss) ≡ []) → choices (map subscripts_of (s ∷ ss)) ≡ []
+none_at s ss true e h f = choices_empty_first (subscripts_of s) (map subscripts_of ss) (none_occurs s e)
+none_at s ss false e h f = choices_empty_rest (subscripts_of s) (map subscripts_of ss) (f h)
+
+-- where no subscript occurs in some dimension, there is no choice
+pub none_chosen : (ss : List Sub) → list_any has_no_subscript ss ≡ true → choices (map subscripts_of ss) ≡ []
+none_chosen [] h = absurd (cc)
+none_chosen (s ∷ ss) h = none_at s ss (has_no_subscript s) refl h (none_chosen ss)
 
 pub row_all : (d : AxisDim) (o o' : ℤ) (ks start out : List ℤ) (i : ℕ) → o ≡ o' → length ks ≤ i → out ≡ start ++ map (moved_in_64_bits d o) (take i ks) → out ≡ start ++ map (moved_in_64_bits d o') ks
 row_all d o o' ks start out i e h p = rw (e, take_all i ks h) at p

@@ -1,5 +1,5 @@
 -- The subscripts that a subscript, a triplet or a vector subscript stands for.
-use Rattle.std.specs.Prelude.{ℕ, zero, suc, ℤ, pos, negsuc, ◌+ℤ◌, ◌-ℤ◌, ◌+◌, ◌/◌, Bool, true, false, ◌&&◌, ◌||◌, List, [], ◌∷◌, unsigned_abs, if◌then◌else◌}
+use Rattle.std.specs.Prelude.{ℕ, zero, suc, ℤ, pos, negsuc, ◌+ℤ◌, ◌-ℤ◌, ◌+◌, ◌/◌, Bool, true, false, ◌&&◌, ◌||◌, List, [], ◌∷◌, length, nat_eq, unsigned_abs, if◌then◌else◌}
 use Rattle.std.specs.Int.Signed.{le_z, lt_z}
 use Rattle.std.specs.List.{list_all}
 use Rattle.array_view.specs.declared.axes.AxisDim.{AxisDim}
@@ -25,6 +25,12 @@ abbrev pub subscripts_of : Sub → List ℤ
 subscripts_of (One k) = k ∷ []
 subscripts_of (Triplet first last stride) = steps_from first stride (triplet_count first last stride)
 subscripts_of (Vector ks) = ks
+
+-- no subscript occurs
+abbrev pub has_no_subscript : Sub → Bool
+has_no_subscript (One k) = false
+has_no_subscript (Triplet first last stride) = is_past last stride first
+has_no_subscript (Vector ks) = nat_eq (length ks) 0
 
 -- a stride isn't 0
 abbrev pub has_direction : Sub → Bool

@@ -1,8 +1,8 @@
 ghost use Rattle.std.specs.Prelude.{◌≡◌, ◌++◌, [], IsTrue, IfOk, OnOk, MatchOption, false, length, map};
 ghost use Rattle.std.specs.Int.{int_wrap, w64};
-ghost use Rattle.std.specs.List.{list_all};
-ghost use Rattle.array_view.specs.Subscripts.{are_designated, has_direction, subscripts_of};
-ghost use Rattle.array_view.specs.Elements.{choices, moved_in_64_bits, rows_in_64_bits, offsets_at};
+ghost use Rattle.std.specs.List.{list_all, list_any};
+ghost use Rattle.array_view.specs.Subscripts.{are_designated, has_direction, has_no_subscript, subscripts_of};
+ghost use Rattle.array_view.specs.Elements.{moved_in_64_bits, rows_in_64_bits, offsets_at};
 ghost use Rattle.array_view.specs.Sections.{IsSection};
 
 use crate::axes::AxisDim;
@@ -83,7 +83,7 @@ fn wrapped_offsets(
 }
 
 fn is_empty(sub: &Sub) -> bool
-    ensures { IsTrue result → subscripts_of sub.now ≡ [] }
+    ensures { result ≡ has_no_subscript sub.now }
 {
     match sub {
         Sub::One(_) => false,
@@ -98,12 +98,9 @@ fn is_empty(sub: &Sub) -> bool
 
 /// Whether some dimension has no subscript, so that there is no element.
 fn has_empty(subs: &[Sub]) -> bool
-    ensures { IsTrue result → choices (map subscripts_of subs.now) ≡ [] }
+    ensures { result ≡ list_any has_no_subscript subs.now }
 {
-    match subs {
-        [sub, subs @ ..] => is_empty(sub) || has_empty(subs),
-        [] => false,
-    }
+    subs.iter().any(|sub| is_empty(sub))
 }
 
 /// Where the elements of a section of the array begin, the first dimension varying fastest (ISO/IEC 1539-1:2018, 9.5.3.3).

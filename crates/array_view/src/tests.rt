@@ -1,3 +1,6 @@
+mod rows;
+mod sections;
+
 use crate::{ArrayView, Axes, AxisDim, Sub, is_contiguous, section};
 use jf_base::List;
 use std::alloc::Global;
@@ -42,22 +45,6 @@ fn triplet(first: i64, last: i64, stride: i64) -> Sub {
         last,
         stride,
     }
-}
-
-#[test]
-fn triplets_of_one_dimension(rt: HostRuntime) {
-    let alloc = rt.alloc();
-    let v = view(alloc, 0, 4, &[(1, 5, 4)]);
-    assert!(rt; is_section(&v, &[triplet(2, 5, 1)], Some(&[4, 8, 12, 16]), alloc));
-    assert!(rt; is_section(&v, &[triplet(1, 4, 1)], Some(&[0, 4, 8, 12]), alloc));
-    assert!(rt; is_section(&v, &[triplet(5, 1, -2)], Some(&[16, 8, 0]), alloc));
-    assert!(rt; is_section(&v, &[triplet(1, 6, 3)], Some(&[0, 12]), alloc));
-    assert!(rt; is_section(&v, &[triplet(9, 8, 1)], Some(&[]), alloc));
-    assert!(rt; is_section(&v, &[triplet(2, 6, 1)], None, alloc));
-    assert!(rt; is_section(&v, &[triplet(3, 0, -1)], None, alloc));
-    assert!(rt; is_section(&v, &[triplet(2, 2, 0)], None, alloc));
-    assert!(rt; is_section(&v, &[Sub::One(5)], Some(&[16]), alloc));
-    assert!(rt; is_section(&v, &[Sub::One(0)], None, alloc));
 }
 
 #[test]
