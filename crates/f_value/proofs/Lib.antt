@@ -9,3 +9,4 @@ pub mod ShiftLaws
 pub mod PowerLaws
 pub mod RemainderLaws
 pub mod TextLaws
+pub mod Squares

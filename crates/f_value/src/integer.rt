@@ -1,4 +1,4 @@
-ghost use Rattle.std.specs.Prelude.{◌≡◌, ◌+ℤ◌, ◌-ℤ◌, ◌*ℤ◌, ◌≤◌, pos, nat_le, true, unsigned_abs, Some, IsSome};
+ghost use Rattle.std.specs.Prelude.{◌≡◌, ◌+ℤ◌, ◌-ℤ◌, ◌*ℤ◌, ◌≤◌, ◌<◌, ◌^◌, SomeIff, pos, nat_le, true, unsigned_abs, Some, IsSome};
 ghost use Rattle.std.specs.Int.{int_pow};
 ghost use Rattle.std.specs.Int.Signed.{lt_z};
 ghost use Rattle.f_value.specs.Integers.{integer_of, power, quotient as quotient_of, raised as raised_of};
@@ -9,6 +9,9 @@ use jf_base::Tag;
 
 /// An INTEGER result isn't in its kind.
 pub const OUT_OF_KIND: Tag = Tag(908);
+
+/// The greatest size of a value of any kind.
+const MOST: u128 = 9223372036854775808;
 
 /// Division by zero, or 0 to a negative power.
 pub const BY_ZERO: Tag = Tag(909);
@@ -168,12 +171,43 @@ fn unit_power(a: i128, n: u128) -> i128
     a
 }
 
-/// A number to a power that a 128-bit product tells apart from too large, by squaring.
+/// A number to a power that a 128-bit product tells apart from too large.
 fn exact_power(a: i128, n: u32, kind: u8) -> Did<FValue>
     ensures { result ≡ in_kind_of (int_pow a n) kind }
 {
-    match a.checked_pow(n) {
+    match size_of_power(a.unsigned_abs(), n) {
         None => Did::Violation(OUT_OF_KIND),
-        Some(v) => in_kind(v, kind),
+        Some(size) => {
+            if size > MOST {
+                return Did::Violation(OUT_OF_KIND);
+            }
+            in_kind(a.pow(n), kind)
+        }
+    }
+}
+
+/// A size to a power by squaring, so by two products for each binary digit of the exponent; None from the first product on that
+/// leaves 128 bits.
+fn size_of_power(size: u128, n: u32) -> Option<u128>
+    ensures { SomeIff result (size ^ n < 2 ^ 128) (size ^ n) }
+{
+    if n == 0 {
+        return Some(1);
+    }
+    if size == 0 {
+        return Some(0);
+    }
+    let half = match size_of_power(size, n / 2) {
+        None => return None,
+        Some(half) => half,
+    };
+    let square = match half.checked_mul(half) {
+        None => return None,
+        Some(square) => square,
+    };
+    if n % 2 == 1 {
+        square.checked_mul(size)
+    } else {
+        Some(square)
     }
 }
