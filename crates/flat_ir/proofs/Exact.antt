@@ -22,8 +22,8 @@ pub ending : {s : Seen} {t u r : Behaviour} {k : ℕ} → t ≡ u → Exactly s 
 ending {s} {t} {u} {r} {k} e x = subst (λ t. Exactly s k t r) e x
 
 -- a run that comes to a run that comes to another
-pub then : {s : Seen} {t u r : Behaviour} {j k : ℕ} → Exactly s k u r → Exactly s j t u → Exactly s (k + j) t r
-then {s} {t} {u} {r} {j} {k} x y = record { runs = λ n. x.runs n ∙ delayed_on s k j u t y.runs n }
+pub joined : {s : Seen} {t u r : Behaviour} {j k : ℕ} → Exactly s k u r → Exactly s j t u → Exactly s (k + j) t r
+joined {s} {t} {u} {r} {j} {k} x y = record { runs = λ n. x.runs n ∙ delayed_on s k j u t y.runs n }
 
 -- exact counts are bounds
 pub comes : {s : Seen} {t r : Behaviour} {k : ℕ} (good : Behaviour → Type 0) (b : ℕ) → k ≤ b → good t → Exactly s k t r → Comes s good b r

@@ -1,2 +1,4 @@
 pub mod Short
 pub mod Copying
+pub mod Dims
+pub mod Moving
