@@ -58,10 +58,10 @@ module _ (ps : List Procedure) (g : Places) (copy : ℕ) (arguments : List Expr)
       (load_known g.areas _ _ 8 m (a + 16) y.stride (omega arith) there.1
       (counted (omega arith) (ticks (with_memory w m) _ refl
       (dims_loop leaves next m ds fuel c b l r tb n k _ _ _ _ _ (first / y.extent) (sum + step) (a + 24)
-        (quotient_is q y.extent some ∙ ap (λ q. q / y.extent) eq)
-        (ap (λ e. (e + remainder_unsigned q y.extent * y.stride % 2 ^ 64) % 2 ^ 64) ee ∙ (ap (λ v. (sum % 2 ^ 64 + v % 2 ^ 64) % 2 ^ 64) step_is ∙ wrapped_sum sum step))
-        (omega arith) (omega arith) (omega arith) (quotient_less first y.extent (count ds) small) there.2 (omega arith)
-        (λ q e at left x h. go q e at left x (h ∙ regrouped sum step (offset ds (digits (first / y.extent) ds)))))))))
+      (quotient_is q y.extent some ∙ ap (λ q. q / y.extent) eq)
+      (ap (λ e. (e + remainder_unsigned q y.extent * y.stride % 2 ^ 64) % 2 ^ 64) ee ∙ (ap (λ v. (sum % 2 ^ 64 + v % 2 ^ 64) % 2 ^ 64) step_is ∙ wrapped_sum sum step))
+      (omega arith) (omega arith) (omega arith) (quotient_less first y.extent (count ds) small) there.2 (omega arith)
+      (λ q e at left x h. go q e at left x (h ∙ regrouped sum step (offset ds (digits (first / y.extent) ds)))))))))
 
   module _ (copying : Procedure) (copies : Copies copying) (has_copy : slice_get ps copy ≡ Some copying) (room : w.frames ≤ g.frames)
       (packed base len table : ℕ) (dims : List Dim) (to_of from_of : ℕ → ℕ → ℕ)
@@ -75,7 +75,7 @@ module _ (ps : List Procedure) (g : Places) (copy : ℕ) (arguments : List Expr)
     abbrev after : ℕ → Bytes
     after k = moves target source len w.memory k
 
-    elements_loop : base < 2 ^ 64 → packed + count dims * len < 2 ^ 64 → count dims < 2 ^ 64 → table + length dims * 24 < 2 ^ 64 → AreBytes w.memory → length dims ≤ d → len < d
+    pub elements_loop : base < 2 ^ 64 → packed + count dims * len < 2 ^ 64 → count dims < 2 ^ 64 → table + length dims * 24 < 2 ^ 64 → AreBytes w.memory → length dims ≤ d → len < d
         → ((k : ℕ) → k < count dims → MayUse g.areas (target k) len) → ((k : ℕ) → k < count dims → MayUse g.areas (source k) len) → ((k : ℕ) → k < count dims → DimsAt g.areas (after k) table dims)
         → (left fuel k c v q e at lf x : ℕ) (m : Bytes) → v ≡ k → c ≡ packed + k * len → m ≡ after k → k + left ≡ count dims → left ≤ fuel
         → Exactly (seen w Running) (left * (len + length dims + 2)) (back [] (with_memory w (after (count dims)))) (element_body (turns fuel element_body) (c ∷ base ∷ len ∷ length dims ∷ table ∷ count dims ∷ v ∷ q ∷ e ∷ at ∷ lf ∷ x ∷ []) (with_memory w m))
@@ -87,19 +87,20 @@ module _ (ps : List Procedure) (g : Places) (copy : ℕ) (arguments : List Expr)
         let here : k < count dims = omega arith in
         if_less v (count dims) _ _
         (λ h.
-          counted (one_more left) (dims_loop (inside (λ env w. back [] w) nowhere) (behind (suc fuel)) m dims d c base len (length dims) table (count dims) v _ _ _ _ _ k base table ev (omega arith) refl refl table_ends here there enough
-          (λ q e at lf x h.
-            let to_is : to_of c e ≡ target k = ap (λ c. to_of c e) ec ∙ ap (λ e. to_of (packed + k * len) e) h in
-            let from_is : from_of c e ≡ source k = ap (λ c. from_of c e) ec ∙ ap (λ e. from_of (packed + k * len) e) h in
-            let m' = copied m (to_of c e) (from_of c e) len in
-            let m'_is : m' ≡ after (suc k) = ap (λ m. copied m (to_of c e) (from_of c e) len) em ∙ (ap (λ a. copied (after k) a (from_of c e) len) to_is ∙ ap (λ a. copied (after k) (target k) a len) from_is) in
-            subst (λ r. Exactly (seen w Running) (len + 1 + suc (left * (len + length dims + 2))) (back [] (with_memory w (after (count dims)))) r) (sym (goes c e base len (length dims) table (count dims) v q at lf x (with_memory w m) _))
-            (joined (copies ps g copy has_copy d (to_of c e) (from_of c e) len (with_memory w m) _ room (record {
-              target = subst (λ a. MayUse g.areas a len) (sym to_is) (ut k here);
-              source = subst (λ a. MayUse g.areas a len) (sym from_is) (uf k here);
-              bytes = subst AreBytes (sym em) (moves_bytes target source len w.memory k bytes) }) deep)
-            (ticks (with_memory w m') _ refl
-            (elements_loop fits narrow small table_ends bytes enough deep ut uf kept left fuel (suc k) _ _ q e at lf x m' (omega arith) (next_place c ec) m'_is (omega arith) (omega arith)))))))
+        counted (one_more left) (dims_loop (inside (λ env w. back [] w) nowhere) (behind (suc fuel)) m dims d c base len (length dims) table (count dims) v _ _ _ _ _ k base table ev (omega arith) refl refl table_ends here there enough
+        (λ q e at lf x h.
+        let to_is : to_of c e ≡ target k = ap (λ c. to_of c e) ec ∙ ap (λ e. to_of (packed + k * len) e) h in
+        let from_is : from_of c e ≡ source k = ap (λ c. from_of c e) ec ∙ ap (λ e. from_of (packed + k * len) e) h in
+        let m' = copied m (to_of c e) (from_of c e) len in
+        let m'_is : m' ≡ after (suc k) = ap (λ m. copied m (to_of c e) (from_of c e) len) em ∙ (ap (λ a. copied (after k) a (from_of c e) len) to_is ∙ ap (λ a. copied (after k) (target k) a len) from_is) in
+        subst (λ r. Exactly (seen w Running) (len + 1 + suc (left * (len + length dims + 2))) (back [] (with_memory w (after (count dims)))) r) (sym (goes c e base len (length dims) table (count dims) v q at lf x (with_memory w m) _))
+        (joined (copies ps g copy has_copy d (to_of c e) (from_of c e) len (with_memory w m) _ room (record {
+          target = subst (λ a. MayUse g.areas a len) (sym to_is) (ut k here);
+          source = subst (λ a. MayUse g.areas a len) (sym from_is) (uf k here);
+          bytes = subst AreBytes (sym em) (moves_bytes target source len w.memory k bytes);
+        }) deep)
+        (ticks (with_memory w m') _ refl
+        (elements_loop fits narrow small table_ends bytes enough deep ut uf kept left fuel (suc k) _ _ q e at lf x m' (omega arith) (next_place c ec) m'_is (omega arith) (omega arith)))))))
         (λ h. absurd (omega arith))
       where
         one_more : (left : ℕ) → length dims + (len + 1 + suc (left * (len + length dims + 2))) ≡ suc left * (len + length dims + 2)

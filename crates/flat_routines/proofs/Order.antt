@@ -4,7 +4,7 @@ use Rattle.std.proofs.Math.Nat.{mod-lt, mod-add-div, add-mul-mod_self_left, add-
 use Rattle.std.proofs.lemmas.Nat.{div-mul-add}
 use Rattle.std.proofs.lemmas.Bool.Decides.{nat_tests}
 use Rattle.std.specs.Prelude.{nat_le, Bool, true, false}
-use Rattle.flat_routines.specs.Dims.{Dim, count, AreSubscripts, position}
+use Rattle.flat_routines.specs.Dims.{Dim, count, AreSubscripts, position, IsOrder}
 
 -- the subscripts of the element at a position
 abbrev pub digits : ℕ → List Dim → List ℕ
@@ -60,3 +60,10 @@ position_less (d ∷ ds) (k ∷ ks) h =
     let f = mul-suc d.extent p in
     let g = h.0 in
     omega (arith, e, f, g)
+
+pub is_order : (dims : List Dim) → IsOrder dims
+is_order dims = record {
+  below = position_less dims;
+  each = λ k h. (digits k dims, digits_are dims k h, digits_position dims k h);
+  once = λ ks js a b e. sym (position_digits dims ks a) ∙ (ap (λ k. digits k dims) e ∙ position_digits dims js b);
+}

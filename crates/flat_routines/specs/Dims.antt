@@ -37,3 +37,9 @@ element base dims ks = (base + offset dims ks) % 2 ^ 64
 abbrev pub DimsAt : Areas → Bytes → ℕ → List Dim → Type 0
 DimsAt s m a [] = Unit {0}
 DimsAt s m a (d ∷ ds) = (loaded 8 s m (a + 8) ≡ Some d.extent) × (loaded 8 s m (a + 16) ≡ Some d.stride) × DimsAt s m (a + 24) ds
+
+-- the positions are the order of the elements: each below the count is that of one element
+pub record IsOrder (dims : List Dim) : Type 0 where
+  pub below : (ks : List ℕ) → AreSubscripts dims ks → position dims ks < count dims
+  pub each : (k : ℕ) → k < count dims → (ks : List ℕ) × AreSubscripts dims ks × (position dims ks ≡ k)
+  pub once : (ks js : List ℕ) → AreSubscripts dims ks → AreSubscripts dims js → position dims ks ≡ position dims js → ks ≡ js

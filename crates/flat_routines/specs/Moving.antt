@@ -35,11 +35,16 @@ element_turn copy arguments =
 
 -- elements without bytes aren't looked at
 abbrev pub mover : ℕ → List Expr → Procedure
-mover copy arguments = record { params = 6; values = 12; charge = 0; body = statements (
-    If (Val 2)
-        (statements (Set 6 (Num 0) ∷ while (less (Val 6) (Val 5)) (element_turn copy arguments) ∷ []))
-        Skip ∷
-    Return [] ∷ []) }
+mover copy arguments = record {
+  params = 6;
+  values = 12;
+  charge = 0;
+  body = statements (
+      If (Val 2)
+      (statements (Set 6 (Num 0) ∷ while (less (Val 6) (Val 5)) (element_turn copy arguments) ∷ []))
+      Skip ∷
+      Return [] ∷ []);
+}
 
 -- gather(packed, base, length, rank, dims, n), where procedure `copy` copies bytes
 abbrev pub gather : ℕ → Procedure
@@ -94,7 +99,7 @@ Gathers f =
     → (d packed base len table : ℕ) (dims : List Dim) (w : World) (back : Back) → w.frames ≤ g.frames
     → (0 < count dims * len → Gathering g.areas w.memory packed base len table dims) → count dims + length dims + len + 1 < d
     → (m' : Bytes) × Gathered w.memory m' packed base len dims
-        × Exactly (seen w Running) (units len (length dims) (count dims)) (back [] (with_memory w m')) (calls_of ps g d p (packed ∷ base ∷ len ∷ length dims ∷ table ∷ count dims ∷ []) w back)
+    × Exactly (seen w Running) (units len (length dims) (count dims)) (back [] (with_memory w m')) (calls_of ps g d p (packed ∷ base ∷ len ∷ length dims ∷ table ∷ count dims ∷ []) w back)
 
 abbrev pub Scatters : (ℕ → Procedure) → Type 0
 Scatters f =
@@ -103,4 +108,4 @@ Scatters f =
     → (d packed base len table : ℕ) (dims : List Dim) (w : World) (back : Back) → w.frames ≤ g.frames
     → (0 < count dims * len → Scattering g.areas w.memory packed base len table dims) → count dims + length dims + len + 1 < d
     → (m' : Bytes) × Scattered w.memory m' packed base len dims
-        × Exactly (seen w Running) (units len (length dims) (count dims)) (back [] (with_memory w m')) (calls_of ps g d p (packed ∷ base ∷ len ∷ length dims ∷ table ∷ count dims ∷ []) w back)
+    × Exactly (seen w Running) (units len (length dims) (count dims)) (back [] (with_memory w m')) (calls_of ps g d p (packed ∷ base ∷ len ∷ length dims ∷ table ∷ count dims ∷ []) w back)

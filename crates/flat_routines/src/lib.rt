@@ -3,4 +3,4 @@
 
 mod laws;
 
-pub use laws::copy_bytes_copies;
+pub use laws::{copy_bytes_copies, gather_gathers, positions_are_an_order, scatter_scatters};
