@@ -1,6 +1,6 @@
 -- `copy_bytes` copies.
-use Rattle.std.proofs.Common.{◌≡◌, ℕ, zero, suc, ◌+◌, ◌-◌, ◌*◌, ◌%◌, ◌^◌, ◌<◌, ◌≤◌, List, [], ◌∷◌, Bool, true, false, Option, Some, None, refl, sym, ap, ◌∙◌, subst, arith, inl, inr}
-use Rattle.std.specs.Prelude.{slice_get, ◌⊎◌, nat_le}
+use Rattle.std.proofs.Common.{◌≡◌, ℕ, zero, suc, ◌+◌, ◌-◌, ◌%◌, ◌^◌, ◌<◌, ◌≤◌, List, [], ◌∷◌, Bool, true, false, refl, sym, ap, ◌∙◌, subst, arith, inl, inr}
+use Rattle.std.specs.Prelude.{◌⊎◌, nat_le}
 use Rattle.std.proofs.lemmas.Bool.Decides.{nat_tests}
 use Rattle.behaviour.specs.Behaviour.{Running}
 use Rattle.flat_ir.specs.Bytes.{Bytes, number, put}
@@ -12,7 +12,7 @@ use Rattle.flat_ir.specs.Comes.{Exactly}
 use Rattle.flat_ir.proofs.Exact.{done, counted, ending, ticks, load, store, if_zero, if_some, if_less, enters_routine}
 use Rattle.flat_ir.proofs.Framing.{put_apart, put_bytes, byte_put, copied_there, copied_elsewhere, copied_bytes, is_copied}
 use Rattle.flat_routines.specs.Short.{less, turn}
-use Rattle.flat_routines.specs.Copying.{down_turn, up_turn, copy_bytes, Copying, Copies}
+use Rattle.flat_routines.specs.Copying.{down_turn, up_turn, copy_bytes, Copies}
 
 copied_none : (m : Bytes) (to from : ℕ) → m ≡ copied m to from 0
 copied_none m to from = is_copied m m to from 0 (λ i l. absurd (omega arith)) (λ i a. refl)

@@ -1,20 +1,20 @@
 -- The routines' trees hold together and compute, and there are calls that meet what the contracts ask for.
-use Rattle.std.proofs.Common.{◌≡◌, ℕ, zero, suc, ◌+◌, ◌-◌, ◌*◌, ◌/◌, ◌%◌, ◌^◌, ◌<◌, ◌≤◌, ℤ, pos, List, [], ◌∷◌, length, Some, refl, sym, ap, ◌∙◌, subst, arith, inl, inr}
-use Rattle.std.specs.Prelude.{◌⊎◌, Bool, true, false, nat_eq, nat_le}
+use Rattle.std.proofs.Common.{◌≡◌, ℕ, zero, suc, ◌+◌, ◌-◌, ◌*◌, ◌%◌, ◌^◌, ◌<◌, ◌≤◌, pos, List, [], ◌∷◌, refl, sym, ap, ◌∙◌, arith, inl, inr}
+use Rattle.std.specs.Prelude.{Bool, true, false, nat_eq, nat_le}
 use Rattle.std.proofs.lemmas.Bool.Decides.{nat_tests}
 use Rattle.behaviour.specs.Behaviour.{Running, Stopped}
-use Rattle.flat_ir.specs.Bytes.{Bytes, Area, Areas, poke, number, put, fits, loaded, stored}
+use Rattle.flat_ir.specs.Bytes.{Bytes, Areas, poke, number, put, loaded, stored}
 use Rattle.flat_ir.specs.Ranges.{AreBytes, MayUse, Apart, copied}
 use Rattle.flat_ir.specs.Placement.{Places}
 use Rattle.flat_ir.specs.Tree.{Procedure}
 use Rattle.flat_ir.specs.Checked.{proc_fits}
 use Rattle.flat_ir.specs.Flat.{World, seen, with_memory, Back, calls_of}
 use Rattle.flat_ir.specs.Comes.{Exactly}
-use Rattle.flat_ir.proofs.Comes.{Lies, Within, in_objects, some_fit}
+use Rattle.flat_ir.proofs.Comes.{in_objects, some_fit}
 use Rattle.flat_ir.proofs.Framing.{put_bytes}
-use Rattle.flat_routines.specs.Copying.{copy_bytes, Copying}
-use Rattle.flat_routines.specs.Dims.{Dim, count, AreSubscripts, position, element, DimsAt}
-use Rattle.flat_routines.specs.Moving.{gather, scatter, Moving, Gathering, Scattering, Gathered, Scattered, units}
+use Rattle.flat_routines.specs.Copying.{copy_bytes}
+use Rattle.flat_routines.specs.Dims.{Dim, AreSubscripts, element, DimsAt}
+use Rattle.flat_routines.specs.Moving.{gather, scatter, Moving, Gathering, Scattering, Gathered, Scattered}
 use Rattle.flat_routines.proofs.Copy.{copies}
 use Rattle.flat_routines.proofs.Gather.{gathers}
 use Rattle.flat_routines.proofs.Scatter.{scatters}

@@ -1,21 +1,21 @@
 -- What the mover does: it copies each element, in the order of their positions.
-use Rattle.std.proofs.Common.{◌≡◌, ℕ, zero, suc, ◌+◌, ◌-◌, ◌*◌, ◌/◌, ◌%◌, ◌^◌, ◌<◌, ◌≤◌, List, [], ◌∷◌, length, Bool, true, false, cond, Option, Some, None, refl, sym, ap, ◌∙◌, subst, arith, inl, inr}
-use Rattle.std.specs.Prelude.{slice_get, nat_eq, ◌==◌, if◌then◌else◌}
+use Rattle.std.proofs.Common.{◌≡◌, ℕ, zero, suc, ◌+◌, ◌-◌, ◌*◌, ◌/◌, ◌%◌, ◌^◌, ◌<◌, ◌≤◌, List, [], ◌∷◌, length, false, cond, Some, refl, sym, ap, ◌∙◌, subst, arith}
+use Rattle.std.specs.Prelude.{slice_get, ◌==◌}
 use Rattle.std.proofs.lemmas.Bool.Decides.{nat_tests}
 use Rattle.std.proofs.Math.Nat.{suc-mul, mul-le-mul_right}
-use Rattle.behaviour.specs.Behaviour.{Running, Seen, Behaviour}
+use Rattle.behaviour.specs.Behaviour.{Running, Behaviour}
 use Rattle.rv_machine.specs.Alu.{quotient_unsigned, remainder_unsigned}
-use Rattle.flat_ir.specs.Bytes.{Bytes, Areas}
-use Rattle.flat_ir.specs.Ranges.{AreBytes, MayUse, Apart, copied}
+use Rattle.flat_ir.specs.Bytes.{Bytes}
+use Rattle.flat_ir.specs.Ranges.{AreBytes, MayUse, copied}
 use Rattle.flat_ir.specs.Placement.{Places}
 use Rattle.flat_ir.specs.Tree.{Expr, Num, Val, Set, Call, Procedure}
 use Rattle.flat_ir.specs.Flat.{World, seen, with_memory, Next, Back, Leaves, evals, turns, inside, nowhere, meaning, calls_of}
 use Rattle.flat_ir.specs.Comes.{Exactly}
-use Rattle.flat_ir.proofs.Exact.{done, counted, ending, joined, ticks, load_known, if_zero, if_some, if_less, enters_routine}
+use Rattle.flat_ir.proofs.Exact.{done, counted, ending, joined, ticks, load_known, if_zero, if_some, if_less}
 use Rattle.flat_routines.specs.Short.{◌⊹◌, less, turn, statements}
-use Rattle.flat_routines.specs.Copying.{Copying, Copies}
+use Rattle.flat_routines.specs.Copying.{Copies}
 use Rattle.flat_routines.specs.Dims.{Dim, count, offset, element, DimsAt}
-use Rattle.flat_routines.specs.Moving.{dim_turn, element_turn, mover, units}
+use Rattle.flat_routines.specs.Moving.{dim_turn, element_turn}
 use Rattle.flat_routines.proofs.Order.{digits, some_extent, quotient_less}
 use Rattle.flat_routines.proofs.Moves.{moves, moves_bytes}
 

@@ -1,10 +1,10 @@
 -- What a memory holds behind several copies of as many bytes each.
-use Rattle.std.proofs.Common.{◌≡◌, ℕ, zero, suc, ◌+◌, ◌<◌, ◌≤◌, Bool, true, false, refl, sym, ap, ◌∙◌, arith, inl, inr}
+use Rattle.std.proofs.Common.{◌≡◌, ℕ, zero, suc, ◌+◌, ◌<◌, Bool, true, false, refl, sym, ap, ◌∙◌, arith, inl, inr}
 use Rattle.std.specs.Prelude.{nat_eq}
 use Rattle.std.proofs.lemmas.Bool.Decides.{nat_tests}
 use Rattle.flat_ir.specs.Bytes.{Bytes}
 use Rattle.flat_ir.specs.Ranges.{AreBytes, Apart, copied}
-use Rattle.flat_ir.proofs.Framing.{apart_turned, copied_there, copied_elsewhere, copied_bytes}
+use Rattle.flat_ir.proofs.Framing.{copied_there, copied_elsewhere, copied_bytes}
 
 module _ (target source : ℕ → ℕ) (len : ℕ) (m : Bytes) where
   -- the first n of them

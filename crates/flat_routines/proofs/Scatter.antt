@@ -1,18 +1,15 @@
 -- `scatter` scatters.
-use Rattle.std.proofs.Common.{◌≡◌, ℕ, zero, suc, ◌+◌, ◌*◌, ◌^◌, ◌<◌, ◌≤◌, List, [], ◌∷◌, length, Bool, true, false, Some, refl, sym, ap, ◌∙◌, subst, arith, inl, inr}
-use Rattle.std.specs.Prelude.{slice_get, nat_eq}
+use Rattle.std.proofs.Common.{◌≡◌, ℕ, zero, suc, ◌+◌, ◌*◌, ◌<◌, ◌≤◌, List, [], ◌∷◌, length, Bool, true, false, refl, sym, ap, ◌∙◌, arith}
+use Rattle.std.specs.Prelude.{nat_eq}
 use Rattle.std.proofs.lemmas.Bool.Decides.{nat_tests}
 use Rattle.std.proofs.Math.Nat.{le-mul_of_pos_right}
 use Rattle.behaviour.specs.Behaviour.{Running}
 use Rattle.flat_ir.specs.Bytes.{Bytes, Areas}
-use Rattle.flat_ir.specs.Ranges.{MayUse, Apart}
-use Rattle.flat_ir.specs.Placement.{Places}
-use Rattle.flat_ir.specs.Tree.{Val, Procedure}
-use Rattle.flat_ir.specs.Flat.{World, seen, with_memory, Back, calls_of}
+use Rattle.flat_ir.specs.Ranges.{Apart}
+use Rattle.flat_ir.specs.Flat.{seen, with_memory, calls_of}
 use Rattle.flat_ir.specs.Comes.{Exactly}
 use Rattle.flat_ir.proofs.Exact.{counted}
 use Rattle.flat_ir.proofs.Framing.{apart_turned}
-use Rattle.flat_routines.specs.Copying.{Copies}
 use Rattle.flat_routines.specs.Dims.{Dim, count, AreSubscripts, position, element, DimsAt}
 use Rattle.flat_routines.specs.Moving.{scatter, Scattered, Scattering, Scatters, units}
 use Rattle.flat_routines.proofs.Order.{digits, digits_are, digits_position, position_digits, position_less}

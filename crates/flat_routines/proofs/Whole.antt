@@ -1,8 +1,7 @@
 -- A whole call of the mover: where there is nothing to move, and where there is.
-use Rattle.std.proofs.Common.{◌≡◌, ℕ, zero, suc, ◌+◌, ◌*◌, ◌^◌, ◌<◌, ◌≤◌, List, [], ◌∷◌, length, Some, refl, sym, ap, ◌∙◌, arith}
+use Rattle.std.proofs.Common.{◌≡◌, ℕ, suc, ◌+◌, ◌*◌, ◌^◌, ◌<◌, ◌≤◌, List, [], ◌∷◌, length, Some, refl, arith}
 use Rattle.std.specs.Prelude.{slice_get}
 use Rattle.behaviour.specs.Behaviour.{Running, Behaviour}
-use Rattle.flat_ir.specs.Bytes.{Bytes}
 use Rattle.flat_ir.specs.Ranges.{AreBytes, MayUse}
 use Rattle.flat_ir.specs.Placement.{Places}
 use Rattle.flat_ir.specs.Tree.{Expr, Procedure}

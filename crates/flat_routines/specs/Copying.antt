@@ -5,7 +5,7 @@ use Rattle.behaviour.specs.Behaviour.{Running}
 use Rattle.flat_ir.specs.Bytes.{Bytes, Areas}
 use Rattle.flat_ir.specs.Ranges.{AreBytes, MayUse, copied}
 use Rattle.flat_ir.specs.Placement.{Places}
-use Rattle.flat_ir.specs.Tree.{Expr, Num, Val, Load, Stmt, Set, Store, If, Return, Procedure}
+use Rattle.flat_ir.specs.Tree.{Num, Val, Load, Stmt, Set, Store, If, Return, Procedure}
 use Rattle.flat_ir.specs.Flat.{World, seen, with_memory, Back, calls_of}
 use Rattle.flat_ir.specs.Comes.{Exactly}
 use Rattle.flat_routines.specs.Short.{◌⊹◌, ◌⊖◌, less, statements, while}

@@ -1,5 +1,5 @@
 -- Short names for code.
-use Rattle.std.specs.Prelude.{ℕ, List, [], ◌∷◌}
+use Rattle.std.specs.Prelude.{List, [], ◌∷◌}
 use Rattle.flat_ir.specs.declared.program.Operation.TheVariants as O
 use Rattle.flat_ir.specs.Tree.{Expr, Bin, Stmt, Skip, Seq, If, Loop, Break}
 
