@@ -1,10 +1,13 @@
 -- What a memory holds behind stores and copies: at places apart what it held before.
 use Rattle.std.proofs.Common.{◌≡◌, ℕ, zero, suc, ◌+◌, ◌-◌, ◌*◌, ◌/◌, ◌%◌, ◌^◌, ◌<◌, ◌≤◌, Bool, true, false, cond, Some, None, refl, sym, ap, ◌∙◌, subst, arith, nat_eq, inl, inr}
-use Rattle.std.specs.Prelude.{◌⊎◌, nat_le, nat_lt, ◌&&◌}
+use Rattle.std.specs.Prelude.{◌⊎◌, nat_le, nat_lt, ◌&&◌, List, [], ◌∷◌, length, slice_index}
 use Rattle.std.proofs.lemmas.Bool.Decides.{nat_tests}
 use Rattle.std.proofs.Math.Nat.{pow-suc}
-use Rattle.flat_ir.specs.Bytes.{Bytes, Areas, poke, number, put, fits, loaded}
-use Rattle.flat_ir.specs.Ranges.{AreBytes, Apart, copied}
+use Rattle.flat_ir.specs.Bytes.{Bytes, Area, Areas, poke, number, put, fits, loaded}
+use Rattle.flat_ir.specs.Ranges.{AreBytes, MayUse, Apart, copied}
+use Rattle.flat_ir.specs.declared.program.Fix.{Fix}
+use Rattle.flat_ir.specs.Placement.{Placement, address_of, fixed, image_bytes, first_bytes}
+use Rattle.flat_ir.proofs.Comes.{Lies, Within, in_image, in_objects, in_heap, some_fit}
 
 pub apart_turned : (a n c k : ℕ) → Apart a n c k → Apart c k a n
 apart_turned a n c k (inl x) = inr x
@@ -143,3 +146,30 @@ is_copied m m' to from n there elsewhere = same_bytes m' (copied m to from n) (�
     go : (i : ℕ) → Place to n i → m' i ≡ copied m to from n i
     go i (inside j l e) = ap m' e ∙ (there j l ∙ (sym (copied_there m to from n j l) ∙ ap (copied m to from n) (sym e)))
     go i (outside a) = elsewhere i a ∙ sym (copied_elsewhere m to from n i a)
+
+-- a range that lies in one area may be used
+pub usable : (s : Areas) (a n : ℕ) → Within n s a → a + n < 2 ^ 64 → MayUse s a n
+usable s a n h narrow = record { each = λ i l. some_fit 1 s (a + i) (whole (a + i)) (byte h i l); narrow = narrow }
+  where
+    whole : (i : ℕ) → nat_eq (i % 1) 0 ≡ true
+    whole i = grind (arith, nat_tests)
+
+    lie : (r : Area) → Lies n r a → (i : ℕ) → i < n → Lies 1 r (a + i)
+    lie r h i l = record { above = omega (arith, h.above); below = omega (arith, h.below) }
+
+    byte : Within n s a → (i : ℕ) → i < n → Within 1 s (a + i)
+    byte (in_image h) i l = in_image (lie s.image h i l)
+    byte (in_objects h) i l = in_objects (lie s.objects h i l)
+    byte (in_heap h) i l = in_heap (lie s.heap h i l)
+
+-- at the start the memory holds bytes
+fixed_bytes : (g : Placement) (fixes : List Fix) (m : Bytes) → AreBytes m → AreBytes (fixed g fixes m)
+fixed_bytes g [] m b = b
+fixed_bytes g (f ∷ fs) m b = fixed_bytes g fs (put 8 m (g.image + f.at) (address_of g f.target)) (put_bytes 8 m (g.image + f.at) (address_of g f.target) b)
+
+pub first_are_bytes : (g : Placement) (image : List ℕ) (fixes : List Fix) → ((i : ℕ) → slice_index image i < 256) → AreBytes (first_bytes g image fixes)
+first_are_bytes g image fixes h = fixed_bytes g fixes (image_bytes g image) (λ a. go a (nat_le g.image a && nat_lt a (g.image + length image)))
+  where
+    go : (a : ℕ) (t : Bool) → cond t (slice_index image (a - g.image)) 0 < 256
+    go a true = h (a - g.image)
+    go a false = omega arith

@@ -15,7 +15,7 @@ use Rattle.flat_ir.proofs.Exact.{done, counted, ending, joined, ticks, load_know
 use Rattle.flat_routines.specs.Short.{◌⊹◌, less, turn, statements}
 use Rattle.flat_routines.specs.Copying.{Copies}
 use Rattle.flat_routines.specs.Dims.{Dim, count, offset, element, DimsAt}
-use Rattle.flat_routines.specs.Moving.{dim_turn, element_turn}
+use Rattle.flat_routines.specs.Moving.{dim_turn, copy_turn, element_turn}
 use Rattle.flat_routines.proofs.Order.{digits, some_extent, quotient_less}
 use Rattle.flat_routines.proofs.Moves.{moves, moves_bytes}
 
@@ -40,7 +40,7 @@ module _ (ps : List Procedure) (g : Places) (copy : ℕ) (arguments : List Expr)
 
   -- what follows it
   abbrev behind : ℕ → Next
-  behind fuel = meaning (statements (Call [] copy arguments ∷ Set 0 (Val 0 ⊹ Val 2) ∷ Set 6 (Val 6 ⊹ Num 1) ∷ [])) g (calls_of ps g d) d back (inside (λ env w. back [] w) nowhere) (turns fuel element_body)
+  behind fuel = meaning (statements (copy_turn copy arguments)) g (calls_of ps g d) d back (inside (λ env w. back [] w) nowhere) (turns fuel element_body)
 
   -- the loop over the dimensions finds the element at a position
   dims_loop : {t : Behaviour} {j : ℕ} (leaves : Leaves) (next : Next) (m : Bytes) (ds : List Dim) (fuel c b l r tb n k q e at left x first sum a : ℕ) → q ≡ first → e ≡ sum % 2 ^ 64 → at ≡ a → left ≡ length ds → a + length ds * 24 < 2 ^ 64 → first < count ds → DimsAt g.areas m a ds → length ds ≤ fuel

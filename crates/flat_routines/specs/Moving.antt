@@ -22,6 +22,13 @@ dim_turn =
     Set 9 (Val 9 ⊹ Num 24) ∷
     Set 10 (Val 10 ⊖ Num 1) ∷ []
 
+-- the element is copied, and the next one begins where it ends
+abbrev pub copy_turn : ℕ → List Expr → List Stmt
+copy_turn copy arguments =
+    Call [] copy arguments ∷
+    Set 0 (Val 0 ⊹ Val 2) ∷
+    Set 6 (Val 6 ⊹ Num 1) ∷ []
+
 abbrev pub element_turn : ℕ → List Expr → List Stmt
 element_turn copy arguments =
     Set 7 (Val 6) ∷
@@ -29,9 +36,7 @@ element_turn copy arguments =
     Set 9 (Val 4) ∷
     Set 10 (Val 3) ∷
     while (Val 10) dim_turn ∷
-    Call [] copy arguments ∷
-    Set 0 (Val 0 ⊹ Val 2) ∷
-    Set 6 (Val 6 ⊹ Num 1) ∷ []
+    copy_turn copy arguments
 
 -- elements without bytes aren't looked at
 abbrev pub mover : ℕ → List Expr → Procedure
