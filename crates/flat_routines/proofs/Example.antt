@@ -15,7 +15,13 @@ use Rattle.flat_ir.proofs.Framing.{put_bytes}
 use Rattle.flat_routines.specs.Copying.{copy_bytes}
 use Rattle.flat_routines.specs.Dims.{Dim, AreSubscripts, element, DimsAt}
 use Rattle.flat_routines.specs.Moving.{gather, scatter, Moving, Gathering, Scattering, Gathered, Scattered}
+use Rattle.flat_routines.specs.Counting.{count_elements}
+use Rattle.flat_routines.specs.Views.{dims_of, AreStrides}
+use Rattle.flat_routines.proofs.Counting.{counts}
+use Rattle.flat_routines.proofs.Views.{is_view}
 use Rattle.flat_routines.proofs.Copy.{copies}
+use Rattle.array_view.specs.declared.axes.AxisDim.{AxisDim}
+use Rattle.std.specs.Prelude.{negsuc}
 use Rattle.flat_routines.proofs.Gather.{gathers}
 use Rattle.flat_routines.proofs.Scatter.{scatters}
 
@@ -29,14 +35,17 @@ gather_holds_together = refl
 scatter_holds_together : proc_fits 1 0 (scatter 0) ≡ true
 scatter_holds_together = refl
 
+count_holds_together : proc_fits 1 0 count_elements ≡ true
+count_holds_together = refl
+
 abbrev areas : Areas
 areas = record { image = record { low = 64; high = 64 }; objects = record { low = 96; high = 400 }; heap = record { low = 400; high = 400 } }
 
 abbrev procs : List Procedure
-procs = copy_bytes ∷ gather 0 ∷ scatter 0 ∷ []
+procs = copy_bytes ∷ gather 0 ∷ scatter 0 ∷ count_elements ∷ []
 
 abbrev places : Places
-places = record { image = 64; areas = areas; procs = λ p. p; count = 3; frames = 0 }
+places = record { image = 64; areas = areas; procs = λ p. p; count = 4; frames = 0 }
 
 -- three by two elements of four bytes, of which the first dimension runs backward
 abbrev dims : List Dim
@@ -154,3 +163,29 @@ gather_instance = gathers copy_bytes copies procs places 0 1 refl refl 20 300 12
 
 scatter_instance : (m' : Bytes) × Scattered memory m' 300 120 4 dims × Exactly (seen start Running) 49 (showing 9 136 [] (with_memory start m')) (calls_of procs places 20 2 (300 ∷ 120 ∷ 4 ∷ 2 ∷ 200 ∷ 6 ∷ []) start (showing 9 136))
 scatter_instance = scatters copy_bytes copies procs places 0 2 refl refl 20 300 120 4 200 dims start (showing 9 136) (omega arith) (λ h. scattering) (omega arith)
+
+-- what is returned
+abbrev telling : Back
+telling rs w i = record { output = rs; taken = 0; ending = Stopped (pos 0) }
+
+counted_run : calls_of procs places 9 3 (2 ∷ 200 ∷ []) start telling 3 ≡ record { output = 6 ∷ []; taken = 0; ending = Stopped (pos 0) }
+unfolding number put poke loaded stored
+counted_run = refl
+
+count_instance : Exactly (seen start Running) 3 (telling (6 ∷ []) start) (calls_of procs places 9 3 (2 ∷ 200 ∷ []) start telling)
+count_instance = counts procs places 3 refl 9 200 dims start telling (omega arith) dims_there (omega arith) (omega arith)
+
+-- the same array as a view, whose subscripts begin at 1 and at 5
+abbrev axes : List AxisDim
+axes = record { lower = pos 1; extent = pos 3; sm = negsuc 7 } ∷ record { lower = pos 5; extent = pos 2; sm = pos 32 } ∷ []
+
+same_dims : dims_of axes ≡ dims
+same_dims = refl
+
+strides : AreStrides axes
+strides zero d h = record { sfits = omega arith }
+strides (suc zero) d h = record { sfits = omega arith }
+strides (suc (suc k)) d h = absurd (omega arith)
+
+view_instance : element 120 dims (2 ∷ 1 ∷ []) ≡ 136
+view_instance = (is_view 120 axes strides).each (2 ∷ 1 ∷ []) 136 (omega arith, omega arith, tt) (omega arith) refl

@@ -3,4 +3,7 @@
 
 mod laws;
 
-pub use laws::{copy_bytes_copies, gather_gathers, positions_are_an_order, scatter_scatters};
+pub use laws::{
+    copy_bytes_copies, count_elements_counts, elements_are_those_of_the_view, gather_gathers, moving_is_linear,
+    positions_are_an_order, scatter_scatters,
+};
