@@ -188,4 +188,4 @@ strides (suc zero) d h = record { sfits = omega arith }
 strides (suc (suc k)) d h = absurd (omega arith)
 
 view_instance : element 120 dims (2 ∷ 1 ∷ []) ≡ 136
-view_instance = (is_view 120 axes strides).each (2 ∷ 1 ∷ []) 136 (omega arith, omega arith, tt) (omega arith) refl
+view_instance = (is_view 120 axes strides).each (2 ∷ 1 ∷ []) 136 (omega arith, (omega arith, tt)) (omega arith) refl
