@@ -1,6 +1,6 @@
 -- `count_elements` counts.
-use Rattle.std.proofs.Common.{◌≡◌, ℕ, zero, suc, ◌+◌, ◌*◌, ◌%◌, ◌^◌, ◌<◌, ◌≤◌, List, [], ◌∷◌, length, Some, refl, sym, ap, ◌∙◌, arith}
-use Rattle.std.specs.Prelude.{slice_get, slice_index}
+use Rattle.std.proofs.Common.{◌≡◌, ℕ, zero, suc, ◌+◌, ◌*◌, ◌%◌, ◌^◌, ◌<◌, ◌≤◌, List, [], ◌∷◌, length, refl, ap, ◌∙◌, arith}
+use Rattle.std.specs.Prelude.{slice_index}
 use Rattle.std.proofs.Math.Nat.{mul_assoc}
 use Rattle.std.proofs.lemmas.Nat.{mul-mod_first}
 use Rattle.behaviour.specs.Behaviour.{Running}
@@ -33,10 +33,10 @@ module _ (ps : List Procedure) (g : Places) (d : ℕ) (back : Back) (w : World) 
       (counted (omega arith) (ticks w _ refl
       (ending (ap (λ n. back (n % 2 ^ 64 ∷ []) w) (mul_assoc sofar y.extent (count ds)))
       (extents_loop ds fuel _ _ _ (a + 24) (sofar * y.extent) (omega arith) (omega arith)
-        (ap (λ n. n * y.extent % 2 ^ 64) ep ∙ mul-mod_first sofar y.extent (2 ^ 64)) (omega arith) there.2 (omega arith))))))
+      (ap (λ n. n * y.extent % 2 ^ 64) ep ∙ mul-mod_first sofar y.extent (2 ^ 64)) (omega arith) there.2 (omega arith))))))
 
 pub counts : Counts count_elements
 counts ps g p here d table dims w back room there narrow fuel =
     counted (omega arith) (enters_routine ps g p _ _ _ d (length dims) _ _ w back refl here refl room fuel
     (λ d le. ending (ap (λ n. back (n % 2 ^ 64 ∷ []) w) (omega arith))
-      (extents_loop ps g d back w dims d (length dims) table 1 table 1 refl refl (omega arith) narrow there le)))
+    (extents_loop ps g d back w dims d (length dims) table 1 table 1 refl refl (omega arith) narrow there le)))

@@ -1,5 +1,5 @@
 -- The units of moving are linear in the bytes that are moved.
-use Rattle.std.proofs.Common.{◌≡◌, ℕ, zero, suc, ◌+◌, ◌*◌, ◌≤◌, sym, arith}
+use Rattle.std.proofs.Common.{ℕ, zero, suc, ◌+◌, ◌*◌, ◌≤◌, arith}
 use Rattle.std.proofs.Math.Nat.{mul_assoc, mul-le-mul_left, le-mul_of_pos_right, suc-mul}
 use Rattle.flat_routines.specs.Moving.{units}
 

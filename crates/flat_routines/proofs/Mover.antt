@@ -8,11 +8,11 @@ use Rattle.rv_machine.specs.Alu.{quotient_unsigned, remainder_unsigned}
 use Rattle.flat_ir.specs.Bytes.{Bytes}
 use Rattle.flat_ir.specs.Ranges.{AreBytes, MayUse, copied}
 use Rattle.flat_ir.specs.Placement.{Places}
-use Rattle.flat_ir.specs.Tree.{Expr, Num, Val, Set, Call, Procedure}
+use Rattle.flat_ir.specs.Tree.{Expr, Val, Procedure}
 use Rattle.flat_ir.specs.Flat.{World, seen, with_memory, Next, Back, Leaves, evals, turns, inside, nowhere, meaning, calls_of}
 use Rattle.flat_ir.specs.Comes.{Exactly}
 use Rattle.flat_ir.proofs.Exact.{done, counted, ending, joined, ticks, load_known, if_zero, if_some, if_less}
-use Rattle.flat_routines.specs.Short.{◌⊹◌, less, turn, statements}
+use Rattle.flat_routines.specs.Short.{less, turn, statements}
 use Rattle.flat_routines.specs.Copying.{Copies}
 use Rattle.flat_routines.specs.Dims.{Dim, count, offset, element, DimsAt}
 use Rattle.flat_routines.specs.Moving.{dim_turn, copy_turn, element_turn}

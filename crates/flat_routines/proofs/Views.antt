@@ -1,17 +1,17 @@
 -- Elements by their dimensions are those of views, in the same order.
-use Rattle.std.proofs.Common.{◌≡◌, ℕ, ℤ, pos, negsuc, zero, suc, ◌+◌, ◌-◌, ◌*◌, ◌%◌, ◌^◌, ◌<◌, ◌+ℤ◌, ◌-ℤ◌, ◌*ℤ◌, FitsSigned, w64, List, [], ◌∷◌, length, map, Option, Some, None, All, refl, sym, ap, ◌∙◌, arith}
-use Rattle.std.specs.Prelude.{slice_get, flat_map, option_map}
+use Rattle.std.proofs.Common.{◌≡◌, ℕ, ℤ, pos, negsuc, zero, suc, ◌+◌, ◌-◌, ◌*◌, ◌^◌, ◌<◌, ◌+ℤ◌, ◌-ℤ◌, ◌*ℤ◌, FitsSigned, w64, List, [], ◌∷◌, length, map, Some, refl, sym, ap, ◌∙◌, arith}
+use Rattle.std.specs.Prelude.{slice_get, option_map}
 use Rattle.std.specs.Int.{cast_unsigned}
 use Rattle.std.proofs.Math.Nat.{suc-mul}
-use Rattle.std.proofs.Math.IntN.{suc_ℤ, suc_ℤ-*ℤ, zero-*ℤ}
+use Rattle.std.proofs.Math.IntN.{suc_ℤ-*ℤ, zero-*ℤ}
 use Rattle.std.proofs.lemmas.Int.{ints}
 use Rattle.std.proofs.lemmas.Option.{slice_get-map}
 use Rattle.std.proofs.lemmas.List.{length-map}
 use Rattle.std.proofs.lemmas.List.Elements.{All-head, All-tail}
 use Rattle.array_view.specs.declared.axes.AxisDim.{AxisDim}
 use Rattle.array_view.specs.Subscripts.{steps_from}
-use Rattle.array_view.specs.Elements.{choices, element_offset, offsets_at, count_of, axis_subscripts}
-use Rattle.flat_routines.specs.Dims.{Dim, count, AreSubscripts, position, offset, element}
+use Rattle.array_view.specs.Elements.{choices, element_offset, count_of, axis_subscripts}
+use Rattle.flat_routines.specs.Dims.{count, AreSubscripts, position, offset}
 use Rattle.flat_routines.specs.Views.{dims_of, AreStrides, IsView}
 use Rattle.flat_routines.proofs.Blocks.{get_block, blocks_length}
 
@@ -81,11 +81,11 @@ pub is_view : (base : ℕ) (ds : List AxisDim) → AreStrides ds → IsView base
 is_view base ds strides = record {
   counts = length-map (choices (map axis_subscripts ds)) (element_offset (pos base) ds) ∙ choices_length ds;
   each = λ ks a h small e.
-    let o = offsets (pos base) ds ks strides h in
-    let listed = slice_get-map (element_offset (pos base) ds) (choices (map axis_subscripts ds)) (position (dims_of ds) ks) ∙ ap (option_map (element_offset (pos base) ds)) (choices_get ds ks h) in
-    let at : element_offset (pos base) ds (subscripts_from ds ks) ≡ pos a = some_is (sym listed ∙ e) in
-    let f = o.1 in
-    omega (arith, ints, f, at, small);
+      let o = offsets (pos base) ds ks strides h in
+      let listed = slice_get-map (element_offset (pos base) ds) (choices (map axis_subscripts ds)) (position (dims_of ds) ks) ∙ ap (option_map (element_offset (pos base) ds)) (choices_get ds ks h) in
+      let at : element_offset (pos base) ds (subscripts_from ds ks) ≡ pos a = some_is (sym listed ∙ e) in
+      let f = o.1 in
+      omega (arith, ints, f, at, small);
 }
   where
     some_is : {x y : ℤ} → Some x ≡ Some y → x ≡ y

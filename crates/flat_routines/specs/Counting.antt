@@ -18,10 +18,15 @@ extent_turn =
 
 -- count_elements(rank, dims)
 abbrev pub count_elements : Procedure
-count_elements = record { params = 2; values = 3; charge = 0; body = statements (
-    Set 2 (Num 1) ∷
-    while (Val 0) extent_turn ∷
-    Return (Val 2 ∷ []) ∷ []) }
+count_elements = record {
+  params = 2;
+  values = 3;
+  charge = 0;
+  body = statements (
+      Set 2 (Num 1) ∷
+      while (Val 0) extent_turn ∷
+      Return (Val 2 ∷ []) ∷ []);
+}
 
 -- a procedure that counts elements: a call of it returns the count in 64 bits, after one unit for the call and one for each dimension, and changes nothing
 abbrev pub Counts : Procedure → Type 0

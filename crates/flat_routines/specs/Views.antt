@@ -1,5 +1,5 @@
 -- What elements by their dimensions have to do with the views of arrays: they are the same ones, in the same order.
-use Rattle.std.specs.Prelude.{◌≡◌, ℕ, ℤ, pos, ◌+ℤ◌, ◌^◌, ◌<◌, List, [], ◌∷◌, map, length, Some, slice_get}
+use Rattle.std.specs.Prelude.{◌≡◌, ℕ, pos, ◌^◌, ◌<◌, List, [], ◌∷◌, map, length, Some, slice_get}
 use Rattle.std.specs.Int.{w64, cast_unsigned}
 use Rattle.std.specs.Int.RustNames.{FitsSigned}
 use Rattle.std.specs.List.{All}

@@ -4,6 +4,6 @@
 mod laws;
 
 pub use laws::{
-    copy_bytes_copies, count_elements_counts, elements_are_those_of_the_view, gather_gathers, moving_is_linear,
-    positions_are_an_order, scatter_scatters,
+    copy_bytes_copies, count_elements_counts, elements_are_those_of_the_view, gather_gathers,
+    moving_is_linear, positions_are_an_order, scatter_scatters,
 };
