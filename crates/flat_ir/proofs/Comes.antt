@@ -114,7 +114,7 @@ module _ {s : Seen} {good : Behaviour → Type 0} where
       subst (λ o. Comes s good (suc b) (called o g (calls_of ps g d) d args w back)) (sym e)
       (valued _ _ _ env ef (valued _ _ _ w' ec (ticked b w _ quiet (c d (omega arith)))))
 
-delayed_on : (s : Seen) (k j : ℕ) (t u : Behaviour) → ((n : ℕ) → t n ≡ delayed s j u n) → (n : ℕ) → delayed s k t n ≡ delayed s (k + j) u n
+pub delayed_on : (s : Seen) (k j : ℕ) (t u : Behaviour) → ((n : ℕ) → t n ≡ delayed s j u n) → (n : ℕ) → delayed s k t n ≡ delayed s (k + j) u n
 delayed_on s zero j t u e n = e n ∙ ap (λ k. delayed s k u n) (sym (zero-add j))
 delayed_on s (suc k) j t u e zero = rw suc-add
 delayed_on s (suc k) j t u e (suc n) = rw suc-add (delayed_on s k j t u e n)

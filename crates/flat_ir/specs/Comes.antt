@@ -15,3 +15,7 @@ pub record Comes (s : Seen) (good : Behaviour → Type 0) (b : ℕ) (r : Behavio
   pub rest : Behaviour
   pub is_good : good rest
   pub runs : (n : ℕ) → r n ≡ delayed s k rest n
+
+-- a run shows s for exactly k units, and goes on as t
+pub record Exactly (s : Seen) (k : ℕ) (t r : Behaviour) : Type 0 where
+  pub runs : (n : ℕ) → r n ≡ delayed s k t n

@@ -7,3 +7,4 @@ pub mod Flat
 pub mod Checked
 pub mod Exits
 pub mod Comes
+pub mod Ranges
