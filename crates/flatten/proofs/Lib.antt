@@ -4,3 +4,7 @@ pub mod Statements
 pub mod Correct
 pub mod Named
 pub mod Forward
+pub mod Clear
+pub mod SetFirst
+pub mod Weight
+pub mod Arms
