@@ -8,3 +8,4 @@ pub mod Clear
 pub mod SetFirst
 pub mod Weight
 pub mod Arms
+pub mod Emitted

@@ -7,6 +7,7 @@ mod emitter;
 mod expressions;
 mod laws;
 mod measure;
+mod program;
 mod stack;
 
 pub use blocks::{Block, BlockEnd, BlockInsn, BlockProc, BlockProgram};
