@@ -1,5 +1,5 @@
 -- A fact of a tree, at the arm of a match that found its variant.
-use Rattle.std.proofs.Common.{◌≡◌, ℕ, List, Bool, sym, ap, ◌∙◌, subst}
+use Rattle.std.proofs.Common.{◌≡◌, List, Bool, sym, ap, ◌∙◌, subst}
 use Rattle.jf_base.specs.declared.numbers.Width.{Width}
 use Rattle.flat_ir.specs.declared.program.Operation.{Operation}
 use Rattle.flat_ir.specs.declared.program.FlatExpr.{FlatExpr}

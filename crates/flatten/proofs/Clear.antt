@@ -1,6 +1,6 @@
 -- Blocks that don't use a value before it is set, where it isn't set before them.
-use Rattle.std.proofs.Common.{◌≡◌, ℕ, zero, suc, ◌+◌, ◌<◌, ◌≤◌, List, [], ◌∷◌, ◌++◌, length, Bool, true, false, refl, sym, ap, ◌∙◌, subst, arith, inl, inr}
-use Rattle.std.specs.Prelude.{◌⊎◌, ◌&&◌, ◌||◌, not, nat_eq, nat_lt, slice_index_or, Contains, Any}
+use Rattle.std.proofs.Common.{◌≡◌, ℕ, zero, suc, ◌+◌, List, [], ◌∷◌, ◌++◌, Bool, true, false, refl, ap, ◌∙◌, arith, inl, inr}
+use Rattle.std.specs.Prelude.{◌⊎◌, ◌&&◌, ◌||◌, not, nat_eq, Contains, Any}
 use Rattle.std.proofs.lemmas.Bool.Decides.{nat_tests}
 use Rattle.flat_ir.specs.Tree.{Expr, Num, Val, Bin, Load, ProcAt, ImageAt}
 use Rattle.flat_ir.specs.Checked.{uses, any_uses, any_is}
@@ -126,7 +126,7 @@ module _ (x : ℕ) (Safe : ℕ → Type 0) where
   pub walked : (is : List BlockInsn) (e : BlockEnd) → InsnsClear is e → SetIn x is ⊎ EndClear e
   walked [] e h = inr h
   walked (i ∷ is) e h = elim (is_in x (sets i)) as (λ v. SetIn x (i ∷ is) ⊎ EndClear e) [
-    inl c ↦ inl (any_head (λ i. Contains (sets i) x) i is c)
+    | inl c ↦ inl (any_head (λ i. Contains (sets i) x) i is c)
     | inr n ↦ elim (walked is e (h.1 n)) as (λ v. SetIn x (i ∷ is) ⊎ EndClear e) [ inl s ↦ inl (any_tail (λ i. Contains (sets i) x) i is s) | inr r ↦ inr r ]
   ]
 
@@ -134,6 +134,6 @@ module _ (x : ℕ) (Safe : ℕ → Type 0) where
   pub walked_to : (done : List BlockInsn) (i : BlockInsn) (rest : List BlockInsn) (e : BlockEnd) → InsnsClear (done ++ i ∷ rest) e → SetIn x done ⊎ (¬ Contains (uses_of i) x)
   walked_to [] i rest e h = inr h.0
   walked_to (j ∷ done) i rest e h = elim (is_in x (sets j)) as (λ v. SetIn x (j ∷ done) ⊎ (¬ Contains (uses_of i) x)) [
-    inl c ↦ inl (any_head (λ i. Contains (sets i) x) j done c)
+    | inl c ↦ inl (any_head (λ i. Contains (sets i) x) j done c)
     | inr n ↦ elim (walked_to done i rest e (h.1 n)) as (λ v. SetIn x (j ∷ done) ⊎ (¬ Contains (uses_of i) x)) [ inl s ↦ inl (any_tail (λ i. Contains (sets i) x) j done s) | inr r ↦ inr r ]
   ]

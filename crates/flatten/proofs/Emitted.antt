@@ -1,14 +1,12 @@
 -- What is measured and written is the code.
-use Rattle.std.proofs.Common.{◌≡◌, ℕ, zero, suc, ◌+◌, ◌-◌, max, List, [], ◌∷◌, ◌++◌, length, drop, refl, sym, ap, ◌∙◌, append_assoc, append-nil, arith}
+use Rattle.std.proofs.Common.{◌≡◌, ℕ, zero, suc, ◌+◌, ◌-◌, max, List, [], ◌∷◌, ◌++◌, refl, sym, ap, ◌∙◌, append_assoc, append-nil, arith}
 use Rattle.std.specs.Prelude.{slice_index}
-use Rattle.flat_ir.specs.Tree.{Expr, Stmt, Skip, Seq, Set, Store, Call, CallAt, If, Loop, Break, Return, Take, Give, Stop, Limit, Procedure}
-use Rattle.flatten.specs.declared.blocks.BlockInsn.TheVariants as I
-use Rattle.flatten.specs.declared.blocks.BlockEnd.{BlockEnd}
+use Rattle.flat_ir.specs.Tree.{Stmt, Skip, Seq, Set, Store, Call, CallAt, If, Loop, Break, Return, Take, Give, Stop, Limit, Procedure}
 use Rattle.flatten.specs.declared.blocks.BlockEnd.TheVariants as E
 use Rattle.flatten.specs.declared.blocks.Block.{Block}
 use Rattle.flatten.specs.declared.measure.Measure.{Measure}
-use Rattle.flatten.specs.Code.{Code, only, before, place, operand, count, behind, code, spare, spares, spare_of, body_code}
-use Rattle.flatten.specs.Emission.{Emission, changed, finished, turning, looping, choosing, emitted, needing, choice_measured, loop_measured, measured}
+use Rattle.flatten.specs.Code.{Code, only, place, operand, count, behind, code, spare, spare_of, body_code}
+use Rattle.flatten.specs.Emission.{Emission, finished, turning, looping, choosing, emitted, needing, choice_measured, loop_measured, measured}
 
 -- of each loop how many blocks its body has beside its first one, the last loop first
 abbrev pub turns_of : Stmt → List ℕ

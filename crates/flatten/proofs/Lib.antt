@@ -9,3 +9,4 @@ pub mod SetFirst
 pub mod Weight
 pub mod Arms
 pub mod Emitted
+pub mod Bounds

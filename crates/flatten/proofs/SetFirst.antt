@@ -1,6 +1,6 @@
 -- Each use of a value has a definition before it on every path.
 use Rattle.std.proofs.Common.{◌≡◌, ℕ, zero, suc, ◌+◌, ◌<◌, ◌≤◌, List, [], ◌∷◌, ◌++◌, length, map, Some, Bool, true, false, refl, sym, ap, ◌∙◌, subst, arith, inl, inr}
-use Rattle.std.specs.Prelude.{◌⊎◌, ◌&&◌, ◌||◌, not, nat_eq, nat_lt, nat_le, slice_get, slice_index_or, Contains, Any, Option, None}
+use Rattle.std.specs.Prelude.{◌⊎◌, ◌&&◌, ◌||◌, not, nat_eq, nat_lt, nat_le, slice_get, slice_index_or, Contains, Any}
 use Rattle.std.specs.List.{list_all}
 use Rattle.std.proofs.lemmas.Bool.Decides.{nat_tests}
 use Rattle.std.proofs.lemmas.List.{length-append}
@@ -10,16 +10,14 @@ use Rattle.flat_ir.specs.Tree.{Expr, Num, Val, Bin, Load, ProcAt, ImageAt, Stmt,
 use Rattle.flat_ir.specs.View.{proc_of, procs_of}
 use Rattle.flat_ir.specs.Checked.{uses, any_uses, any_is, asked_behind, asks, each_below, is_set_first, expr_fits, exprs_fit, results_fit, stmt_fits, proc_fits, fix_fits, all_apart, entry_fits, is_ok}
 use Rattle.flatten.specs.declared.blocks.BlockInsn.{BlockInsn}
-use Rattle.flatten.specs.declared.blocks.BlockInsn.TheVariants as I
-use Rattle.flatten.specs.declared.blocks.BlockEnd.{BlockEnd}
 use Rattle.flatten.specs.declared.blocks.BlockEnd.TheVariants as E
 use Rattle.flatten.specs.declared.blocks.Block.{Block}
 use Rattle.flatten.specs.declared.blocks.BlockProc.{BlockProc}
-use Rattle.flatten.specs.Code.{only, before, place, expr_code, operand, operands, places_of, count, behind, code, body_code, proc_code}
-use Rattle.flatten.specs.Paths.{sets, uses_of, end_uses, goes_to, Path, Start, On, SetIn, IsSet, UsesAreSet, AllUsesAreSet}
+use Rattle.flatten.specs.Code.{only, place, places_of, count, behind, code, proc_code}
+use Rattle.flatten.specs.Paths.{uses_of, end_uses, Path, Start, On, SetIn, IsSet, UsesAreSet, AllUsesAreSet}
 use Rattle.flatten.proofs.Values.{and_left, and_right, below}
 use Rattle.flatten.proofs.Sim.{code_count}
-use Rattle.flatten.proofs.Clear.{head_in, tail_in, in_cases, in_none, any_head, any_tail, or_left, or_right, differ, unequal, kept, not_in, EndClear, InsnsClear, Clear, expr_clear, operand_clear, operands_clear, walked, walked_to}
+use Rattle.flatten.proofs.Clear.{in_cases, in_none, any_head, any_tail, or_left, or_right, unequal, kept, not_in, InsnsClear, Clear, expr_clear, operand_clear, operands_clear, walked, walked_to}
 
 -- whether the paths from each of a statement's other blocks use a value before they set it
 abbrev pub needs : ℕ → Stmt → Bool → List Bool → List Bool
@@ -99,7 +97,7 @@ module _ (x : ℕ) (need : ℕ → Bool) where
   branch_clear y a b ny ha hb = record {
     unused = λ c. elim (in_cases y [] x c) as (λ v. ⊥) [ inl e ↦ ny e | inr d ↦ in_none x d ];
     safe = λ n c. elim (in_cases a (b ∷ []) n c) as (λ v. need n ≡ false) [
-      inl e ↦ subst (λ n. need n ≡ false) e ha
+      | inl e ↦ subst (λ n. need n ≡ false) e ha
       | inr d ↦ elim (in_cases b [] n d) as (λ v. need n ≡ false) [ inl e ↦ subst (λ n. need n ≡ false) e hb | inr f ↦ absurd (in_none n f) ]
     ];
   }
@@ -126,20 +124,18 @@ module _ (x : ℕ) (need : ℕ → Bool) where
       (ha.0, both_clear at (at + count a) (count a) (code a t at outs cb.first).others cb.others (code_count a t at outs cb.first) refl ha.1 hb.1)
   stmt_clear (Set y e) t at outs k after exits st ho hk =
       (λ h. expr_clear x Safe e y t k (or_left (uses x e) (not (nat_eq y x) && after) h) (λ n. hk (kept (nat_eq y x) after (unequal x y n) (or_right (uses x e) (not (nat_eq y x) && after) h))), tt)
-  stmt_clear (Store w a e) t at outs k after exits st ho hk =
-      (
-        λ h. (let r = or_right (uses x a) (uses x e || after) h in
+  stmt_clear (Store w a e) t at outs k after exits st ho hk = (
+    λ h. (let r = or_right (uses x a) (uses x e || after) h in
         operand_clear x Safe a t _ (or_left (uses x a) (uses x e || after) h) (λ na. operand_clear x Safe e (t + 1) _ (or_left (uses x e) after r) (λ ne. (cons_in (place a t) (place e (t + 1) ∷ []) na (one_in (place e (t + 1)) ne), λ n. hk (or_right (uses x e) after r))))),
-        tt,
-      )
+    tt,
+  )
   stmt_clear (Call ys p es) t at outs k after exits st ho hk =
       (λ h. operands_clear x Safe es t _ (or_left (any_uses x es) (not (any_is x ys) && after) h) (λ nes. (nes, λ n. hk (kept (any_is x ys) after (not_in x ys n) (or_right (any_uses x es) (not (any_is x ys) && after) h)))), tt)
-  stmt_clear (CallAt ys a es) t at outs k after exits st ho hk =
-      (
-        λ h. (let r = or_right (uses x a) (any_uses x es || (not (any_is x ys) && after)) h in
+  stmt_clear (CallAt ys a es) t at outs k after exits st ho hk = (
+    λ h. (let r = or_right (uses x a) (any_uses x es || (not (any_is x ys) && after)) h in
         operand_clear x Safe a t _ (or_left (uses x a) (any_uses x es || (not (any_is x ys) && after)) h) (λ na. operands_clear x Safe es (t + 1) _ (or_left (any_uses x es) (not (any_is x ys) && after) r) (λ nes. (cons_in (place a t) (places_of es (t + 1)) na nes, λ n. hk (kept (any_is x ys) after (not_in x ys n) (or_right (any_uses x es) (not (any_is x ys) && after) r)))))),
-        tt,
-      )
+    tt,
+  )
   stmt_clear (If e a b) t at outs k after exits st ho hk =
       let join = at + 1 + count a + 1 + count b in
       let to_join = only (E.Jump join) in
@@ -156,10 +152,9 @@ module _ (x : ℕ) (need : ℕ → Bool) where
       let hb = stmt_clear b t (at + 1 + count a + 1) outs to_join after exits sb.0.1 ho hj in
       let ma : length (ca.first ∷ ca.others) ≡ 1 + count a = (let q = code_count a t (at + 1) outs to_join in omega arith) in
       let mb : length (cb.first ∷ cb.others) ≡ 1 + count b = (let q = code_count b t (at + 1 + count a + 1) outs to_join in omega arith) in
-      let tail : AllClear (at + 1 + count a) ((cb.first ∷ cb.others) ++ k ∷ []) = both_clear (at + 1 + count a) join (1 + count b) (cb.first ∷ cb.others) (k ∷ []) mb (omega arith) (λ h. hb.0 (sym sb.0.0 ∙ h), hb.1) (λ h. hk (sym sb.1.0 ∙ h), tt) in
-      (
+      let tail : AllClear (at + 1 + count a) ((cb.first ∷ cb.others) ++ k ∷ []) = both_clear (at + 1 + count a) join (1 + count b) (cb.first ∷ cb.others) (k ∷ []) mb (omega arith) (λ h. hb.0 (sym sb.0.0 ∙ h), hb.1) (λ h. hk (sym sb.1.0 ∙ h), tt) in (
         λ h. (let r = or_right (uses x e) (asks x a after exits || asks x b after exits) h in
-        operand_clear x Safe e t _ (or_left (uses x e) (asks x a after exits || asks x b after exits) h) (λ ne. branch_clear (place e t) at (at + 1 + count a) ne (sa.0.0 ∙ or_left (asks x a after exits) (asks x b after exits) r) (sb.0.0 ∙ or_right (asks x a after exits) (asks x b after exits) r))),
+            operand_clear x Safe e t _ (or_left (uses x e) (asks x a after exits || asks x b after exits) h) (λ ne. branch_clear (place e t) at (at + 1 + count a) ne (sa.0.0 ∙ or_left (asks x a after exits) (asks x b after exits) r) (sb.0.0 ∙ or_right (asks x a after exits) (asks x b after exits) r))),
         both_clear at (at + 1 + count a) (1 + count a) (ca.first ∷ ca.others) ((cb.first ∷ cb.others) ++ k ∷ []) ma (omega arith) (λ h. ha.0 (sym sa.0.0 ∙ h), ha.1) tail,
       )
   stmt_clear (Loop s) t at outs k after exits st ho hk =
@@ -191,12 +186,12 @@ module _ (x : ℕ) (need : ℕ → Bool) where
   path_safe q run b all start Start = inr start
   path_safe q run b all start (On run' b' k next p e c) =
       elim (path_safe q run' b' all start p) as (λ v. Any (λ k. SetIn x k.insns) (k ∷ run') ⊎ Safe next) [
-        inl s ↦ inl (any_tail (λ k. SetIn x k.insns) k run' s)
+        | inl s ↦ inl (any_tail (λ k. SetIn x k.insns) k run' s)
         | inr safe ↦ (let there : 0 + b' ≡ b' = omega arith in
-        elim (walked x Safe k.insns k.end (clear_at 0 b' q.blocks k all e (ap need there ∙ safe))) as (λ v. Any (λ k. SetIn x k.insns) (k ∷ run') ⊎ Safe next) [
-          inl s ↦ inl (any_head (λ k. SetIn x k.insns) k run' s)
-          | inr r ↦ inr (r.safe next c)
-        ])
+            elim (walked x Safe k.insns k.end (clear_at 0 b' q.blocks k all e (ap need there ∙ safe))) as (λ v. Any (λ k. SetIn x k.insns) (k ∷ run') ⊎ Safe next) [
+              | inl s ↦ inl (any_head (λ k. SetIn x k.insns) k run' s)
+              | inr r ↦ inr (r.safe next c)
+            ])
       ]
 
 -- answers of the blocks from a number on, by a list of them
@@ -309,7 +304,7 @@ uses_are_set procs bytes f ok = record { insns = λ run b k p e done i rest ei x
     reached x np run b k p e =
         let all = proc_clear f x (never_asked procs bytes f ok x np) in
         elim (path_safe x (answers f x) (proc_code f) run b all refl p) as (λ v. Any (λ k. SetIn x k.insns) run ⊎ Clear x (Safe x (answers f x)) k) [
-          inl s ↦ inl s
+          | inl s ↦ inl s
           | inr safe ↦ (let there : 0 + b ≡ b = omega arith in inr (clear_at x (answers f x) 0 b (proc_code f).blocks k all e (ap (answers f x) there ∙ safe)))
         ]
 
@@ -318,7 +313,7 @@ uses_are_set procs bytes f ok = record { insns = λ run b k p e done i rest ei x
     at_insn run b k p e done i rest ei x c true t = inl (below x f.params t)
     at_insn run b k p e done i rest ei x c false t =
         elim (reached x t run b k p e) as (λ v. IsSet (proc_code f) run done x) [
-          inl s ↦ inr (inl s)
+          | inl s ↦ inr (inl s)
           | inr h ↦ elim (walked_to x (Safe x (answers f x)) done i rest k.end (subst (λ is. InsnsClear x (Safe x (answers f x)) is k.end) ei h)) as (λ v. IsSet (proc_code f) run done x) [ inl s ↦ inr (inr s) | inr n ↦ absurd (n c) ]
         ]
 
@@ -326,7 +321,7 @@ uses_are_set procs bytes f ok = record { insns = λ run b k p e done i rest ei x
     at_end run b k p e x c true t = inl (below x f.params t)
     at_end run b k p e x c false t =
         elim (reached x t run b k p e) as (λ v. IsSet (proc_code f) run k.insns x) [
-          inl s ↦ inr (inl s)
+          | inl s ↦ inr (inl s)
           | inr h ↦ elim (walked x (Safe x (answers f x)) k.insns k.end h) as (λ v. IsSet (proc_code f) run k.insns x) [ inl s ↦ inr (inr s) | inr r ↦ absurd (r.unused c) ]
         ]
 

@@ -1,5 +1,5 @@
 -- Code as it is written, from its end to its start: steps that together give what `Code.antt` says.
-use Rattle.std.specs.Prelude.{ℕ, Bool, true, false, ◌+◌, ◌-◌, max, List, [], ◌∷◌, drop, slice_index}
+use Rattle.std.specs.Prelude.{ℕ, Bool, true, false, ◌+◌, ◌-◌, max, List, ◌∷◌, drop, slice_index}
 use Rattle.flat_ir.specs.Tree.{Expr, Num, Val, Bin, Load, ProcAt, ImageAt, Stmt, Skip, Seq, Set, Store, Call, CallAt, If, Loop, Break, Return, Take, Give, Stop, Limit}
 use Rattle.flatten.specs.declared.blocks.BlockInsn.TheVariants as I
 use Rattle.flatten.specs.declared.blocks.BlockEnd.{BlockEnd}

@@ -8,13 +8,16 @@ ghost use Rattle.flat_ir.specs.Placement.{Placement};
 ghost use Rattle.flat_ir.specs.View.{proc_of, procs_of};
 ghost use Rattle.flatten.specs.Blocks.{blocks};
 ghost use Rattle.flatten.specs.Code.{proc_code, program_code};
-ghost use Rattle.flatten.specs.Sizes.{sizes_of};
+ghost use Rattle.flatten.specs.Forward.{OnlyLoopsGoBackIn};
+ghost use Rattle.flatten.specs.Named.{ProcsNamed};
+ghost use Rattle.flatten.specs.Paths.{AllUsesAreSet};
+ghost use Rattle.flatten.specs.Sizes.{sizes_of, ProcsWithin};
 
 use crate::blocks::{BlockEnd, BlockProc, BlockProgram};
+use crate::emit::emit_stmts;
 use crate::emitter::Emitter;
 use crate::measure::{Measure, add, measure_stmts};
 use crate::stack::Stack;
-use crate::emit::emit_stmts;
 use flat_ir::{Fix, FlatProc, FlatProgram};
 use jf_base::{List, Memory};
 use std::alloc::{AllocError, Global};
@@ -55,7 +58,6 @@ fn flatten_procs(alloc: Global, fs: &[FlatProc]) -> Result<List<BlockProc>, Allo
     Ok(List::from_vec(procs))
 }
 
-/// What `flatten` answers, before its laws are drawn.
 fn flatten_all(alloc: Global, p: &FlatProgram) -> Result<BlockProgram, AllocError>
     ensures { IfOk result (λ q. q ≡ program_code p.now) }
 {
@@ -70,4 +72,21 @@ fn flatten_all(alloc: Global, p: &FlatProgram) -> Result<BlockProgram, AllocErro
         fixes: List::from_vec(fixes),
         entry: p.entry,
     })
+}
+
+/// The blocks of a program that holds together. They follow the program wherever it is placed, whatever its limits and its input, within as many steps a unit as the program is long.
+/// Each value, block, procedure and byte of the image that they name is there, only calls and the ends of loops go back,
+/// each use of a value has a definition before it on every path, and values and instructions are in proportion to each procedure's size.
+/// A program with numbers beyond 32 bits, of blocks or of values, is want of memory too.
+pub fn flatten(alloc: Global, p: &FlatProgram) -> Result<BlockProgram, Memory>
+    requires { is_ok p.now ≡ true }
+    ensures code { IfOk result (λ q. q ≡ program_code p.now) }
+    ensures follows { IfOk result (λ q. (g : Placement) (input : ListOf ℕ) → Follows (sizes_of (procs_of p.now.procs)) (blocks q g input) (flat p.now g input)) }
+    ensures named { IfOk result (λ q. ProcsNamed (length p.now.procs) (length p.now.image) q.procs) }
+    ensures forward { IfOk result (λ q. OnlyLoopsGoBackIn (procs_of p.now.procs) q.procs) }
+    ensures set_first { IfOk result (λ q. AllUsesAreSet q.procs) }
+    ensures within { IfOk result (λ q. ProcsWithin (procs_of p.now.procs) q.procs) }
+{
+    let q = flatten_all(alloc, p)?;
+    Ok(q)
 }

@@ -1,4 +1,4 @@
-use Rattle.std.proofs.Common.{◌≡◌, ℕ, ◌+◌, ◌-◌, ◌*◌, ◌<◌, OnOk, ap, arith}
+use Rattle.std.proofs.Common.{◌≡◌, ◌+◌, ◌-◌, ◌<◌, OnOk, ap, arith}
 use Rattle.flat_ir.specs.View.{stmt_of, stmts_of}
 use Rattle.flatten.specs.Emission.{emitted}
 use Rattle.flatten.proofs.Arms.{if_arm}

@@ -1,4 +1,4 @@
-use Rattle.std.proofs.Common.{◌≡◌, ℕ, ◌+◌, ◌*◌, ◌<◌, OnOk, arith}
+use Rattle.std.proofs.Common.{◌≡◌, ◌+◌, ◌*◌, ◌<◌, OnOk, arith}
 use Rattle.flat_ir.specs.View.{expr_of}
 use Rattle.flatten.specs.Code.{expr_code}
 use Rattle.flatten.specs.Emission.{changed}

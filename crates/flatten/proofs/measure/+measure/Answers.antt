@@ -1,8 +1,8 @@
-use Rattle.std.proofs.Common.{◌≡◌, ℕ, ◌+◌, ◌-◌, ◌*◌, ◌<◌, OnOk, ap, arith}
-use Rattle.flat_ir.specs.View.{stmt_of, stmts_of}
+use Rattle.std.proofs.Common.{◌≡◌, ◌+◌, ◌<◌, OnOk, arith}
+use Rattle.flat_ir.specs.View.{stmts_of}
 use Rattle.flatten.specs.Emission.{measured}
 use Rattle.flatten.proofs.Arms.{if_arm}
-use Rattle.flatten.proofs.Weight.{weight, lighter}
+use Rattle.flatten.proofs.Weight.{weight}
 use Rattle.flatten.proofs.measure.+measure.Goals as goal
 
 pub measure_stmt-measure_if-requires : goal.measure_stmt-measure_if-requires

@@ -1,4 +1,4 @@
-use Rattle.std.proofs.Common.{◌≡◌, ℕ, ◌+◌, ◌*◌, ◌<◌, IfOk, arith}
+use Rattle.std.proofs.Common.{◌≡◌, ◌+◌, ◌*◌, ◌<◌, IfOk, arith}
 use Rattle.flat_ir.specs.View.{expr_of}
 use Rattle.flatten.specs.Code.{spare}
 use Rattle.flatten.specs.Sizes.{size_of_expr}

@@ -1,7 +1,7 @@
 use Rattle.std.proofs.Common.{◌≡◌, ◌+◌, [], ap, ◌∙◌}
 use Rattle.flat_ir.specs.View.{proc_of, stmts_of}
 use Rattle.flatten.specs.declared.blocks.BlockEnd.TheVariants as E
-use Rattle.flatten.specs.Code.{only, body_code, spare_of}
+use Rattle.flatten.specs.Code.{only}
 use Rattle.flatten.specs.Emission.{emitted, measured}
 use Rattle.flatten.proofs.Emitted.{measure, emission, body_spare, body_blocks}
 use Rattle.flatten.proofs.program.flatten_proc.Goals as goal
