@@ -1,14 +1,18 @@
 -- Only the ends of loops go back.
-use Rattle.std.proofs.Common.{◌≡◌, ℕ, zero, suc, ◌+◌, ◌<◌, ◌≤◌, List, [], ◌∷◌, ◌++◌, length, true, refl, sym, ◌∙◌, subst, arith, inl, inr}
-use Rattle.std.specs.Prelude.{◌&&◌, nat_le}
+use Rattle.std.proofs.Common.{◌≡◌, ℕ, zero, suc, ◌+◌, ◌<◌, ◌≤◌, List, [], ◌∷◌, ◌++◌, length, map, true, refl, sym, ◌∙◌, subst, arith, inl, inr}
+use Rattle.std.specs.Prelude.{◌&&◌, nat_le, slice_get}
+use Rattle.std.specs.List.{list_all}
+use Rattle.flat_ir.specs.declared.program.FlatProc.{FlatProc}
+use Rattle.flat_ir.specs.declared.program.FlatProgram.{FlatProgram}
+use Rattle.flat_ir.specs.View.{proc_of, procs_of}
 use Rattle.flat_ir.specs.Tree.{Expr, Num, Val, Bin, Load, ProcAt, ImageAt, Stmt, Skip, Seq, Set, Store, Call, CallAt, If, Loop, Break, Return, Take, Give, Stop, Limit, Procedure}
-use Rattle.flat_ir.specs.Checked.{expr_fits, stmt_fits, each_below, is_set_first, proc_fits}
+use Rattle.flat_ir.specs.Checked.{expr_fits, stmt_fits, each_below, is_set_first, proc_fits, fix_fits, all_apart, entry_fits, is_ok}
 use Rattle.flatten.specs.declared.blocks.BlockInsn.TheVariants as I
 use Rattle.flatten.specs.declared.blocks.BlockEnd.{BlockEnd}
 use Rattle.flatten.specs.declared.blocks.BlockEnd.TheVariants as E
 use Rattle.flatten.specs.declared.blocks.Block.{Block}
 use Rattle.flatten.specs.Code.{only, before, place, expr_code, operand, operands, places_of, count, behind, code, proc_code}
-use Rattle.flatten.specs.Forward.{Begins, EndForward, BlocksForward, OnlyLoopsGoBack}
+use Rattle.flatten.specs.Forward.{Begins, EndForward, BlocksForward, OnlyLoopsGoBack, OnlyLoopsGoBackIn}
 use Rattle.flatten.proofs.Values.{and_left, and_right, below}
 use Rattle.flatten.proofs.Sim.{code_count}
 
@@ -102,3 +106,13 @@ proc_forward procs bytes f ok =
     let oks = and_right (nat_le f.params f.values) (stmt_fits f.values procs bytes 0 f.body && each_below f.values (is_set_first f)) ok in
     let h = stmt_forward (Begins f.body 1) f.values procs bytes f.body 1 0 [] (only (E.Return [])) (and_left (stmt_fits f.values procs bytes 0 f.body) (each_below f.values (is_set_first f)) oks) (λ t h. h) (λ j lj. absurd (omega arith)) (λ b l. tt) in
     (h.0 0 (omega arith), h.1)
+
+all_forward : (procs bytes : ℕ) (fs : List FlatProc) → list_all (λ f. proc_fits procs bytes (proc_of f)) fs ≡ true → OnlyLoopsGoBackIn (procs_of fs) (map proc_code (procs_of fs))
+all_forward procs bytes [] h = tt
+all_forward procs bytes (f ∷ fs) h =
+    (proc_forward procs bytes (proc_of f) (and_left (proc_fits procs bytes (proc_of f)) (list_all (λ f. proc_fits procs bytes (proc_of f)) fs) h), all_forward procs bytes fs (and_right (proc_fits procs bytes (proc_of f)) (list_all (λ f. proc_fits procs bytes (proc_of f)) fs) h))
+
+pub blocks_forward : (p : FlatProgram) → is_ok p ≡ true → OnlyLoopsGoBackIn (procs_of p.procs) (map proc_code (procs_of p.procs))
+blocks_forward p ok =
+    let rest = and_right (entry_fits (slice_get (procs_of p.procs) p.entry)) (list_all (λ f. proc_fits (length p.procs) (length p.image) (proc_of f)) p.procs && (list_all (λ f. fix_fits (length p.procs) (length p.image) f) p.fixes && all_apart p.fixes)) ok in
+    all_forward (length p.procs) (length p.image) p.procs (and_left (list_all (λ f. proc_fits (length p.procs) (length p.image) (proc_of f)) p.procs) (list_all (λ f. fix_fits (length p.procs) (length p.image) f) p.fixes && all_apart p.fixes) rest)

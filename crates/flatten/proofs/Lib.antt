@@ -4,3 +4,9 @@ pub mod Statements
 pub mod Correct
 pub mod Named
 pub mod Forward
+pub mod Clear
+pub mod SetFirst
+pub mod Weight
+pub mod Arms
+pub mod Emitted
+pub mod Bounds

@@ -39,3 +39,9 @@ BlocksForward Turn b (k ∷ ks) = EndForward Turn b k.end × BlocksForward Turn 
 -- in the blocks of a procedure only the ends of loops go back
 abbrev pub OnlyLoopsGoBack : Procedure → BlockProc → Type 0
 OnlyLoopsGoBack f q = BlocksForward (Begins f.body 1) 0 q.blocks
+
+abbrev pub OnlyLoopsGoBackIn : List Procedure → List BlockProc → Type 0
+OnlyLoopsGoBackIn [] [] = Unit {0}
+OnlyLoopsGoBackIn [] (q ∷ qs) = ⊥
+OnlyLoopsGoBackIn (f ∷ fs) [] = ⊥
+OnlyLoopsGoBackIn (f ∷ fs) (q ∷ qs) = OnlyLoopsGoBack f q × OnlyLoopsGoBackIn fs qs

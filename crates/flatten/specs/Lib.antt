@@ -3,3 +3,5 @@ pub mod Code
 pub mod Sizes
 pub mod Named
 pub mod Forward
+pub mod Emission
+pub mod Paths

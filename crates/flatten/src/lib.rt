@@ -2,7 +2,12 @@
 #![tactic(auto)]
 
 mod blocks;
-mod laws;
+mod emit;
+mod emitter;
+mod expressions;
+mod measure;
+mod program;
+mod stack;
 
 pub use blocks::{Block, BlockEnd, BlockInsn, BlockProc, BlockProgram};
-pub use laws::{blocks_follow_the_program, blocks_name_what_is_there, only_loops_go_back};
+pub use program::flatten;
