@@ -23,6 +23,10 @@ left [] ys k r g = cc
 left (x ∷ xs) ys zero r g = g
 left (x ∷ xs) ys (suc k) r g = left xs ys k r g
 
+behind : (xs ys : List Relocation) (i : ℕ) (r : Relocation) → slice_get ys i ≡ Some r → (j : ℕ) × (slice_get (xs ++ ys) j ≡ Some r)
+behind [] ys i r h = (i, h)
+behind (x ∷ xs) ys i r h = let f = behind xs ys i r h in (suc f.0, f.1)
+
 same : (a b : Relocation) → Some a ≡ Some b → a ≡ b
 same a b e = cc
 
@@ -69,17 +73,18 @@ has_line (first ∷ lines) k places zero line r g a =
 has_line (first ∷ lines) k places (suc m) line r g a =
     let e : k + suc m ≡ k + 1 + m = omega arith in
     let f = has_line lines (k + 1) places m line r g (subst (λ (n : ℕ). asked_by (slice_index places n) line ≡ r ∷ []) e a) in
-    behind (asked_by (slice_index places k) first) (asked_by_lines (k + 1) lines places) f.0 f.1
-  where
-    behind : (xs ys : List Relocation) (i : ℕ) → slice_get ys i ≡ Some r → (j : ℕ) × (slice_get (xs ++ ys) j ≡ Some r)
-    behind [] ys i h = (i, h)
-    behind (x ∷ xs) ys i h = let f = behind xs ys i h in (suc f.0, f.1)
+    behind (asked_by (slice_index places k) first) (asked_by_lines (k + 1) lines places) f.0 r f.1
 
 -- a request of a fix
 of_fixes : (fixes : List NamedFix) (code_len t : ℕ) (r : Relocation) → slice_get (asked_by_fixes code_len fixes) t ≡ Some r → (fix : NamedFix) × (slice_get fixes t ≡ Some fix) × (asked_by_fix code_len fix ≡ r)
 of_fixes [] code_len t r g = cc
 of_fixes (fix ∷ fixes) code_len zero r g = (fix, refl, same (asked_by_fix code_len fix) r g)
 of_fixes (fix ∷ fixes) code_len (suc t) r g = of_fixes fixes code_len t r g
+
+has_fix : (fixes : List NamedFix) (code_len k : ℕ) (fix : NamedFix) → slice_get fixes k ≡ Some fix → slice_get (asked_by_fixes code_len fixes) k ≡ Some (asked_by_fix code_len fix)
+has_fix [] code_len k fix g = cc
+has_fix (f ∷ fixes) code_len zero fix g = let e : f ≡ fix = cc in ap (λ (x : NamedFix). Some (asked_by_fix code_len x)) e
+has_fix (f ∷ fixes) code_len (suc k) fix g = has_fix fixes code_len k fix g
 
 -- requests that lie one behind the other, from a place on
 abbrev Rising : ℕ → List Relocation → Type 0
@@ -179,6 +184,12 @@ module _ (u : AsmUnit) (o : ObjUnit) (a : IsAssembled u o) where
       let e : k ≡ 0 + k = omega arith in
       let f = has_line u.lines 0 a.places k line r g (subst (λ (n : ℕ). asked_by (slice_index a.places n) line ≡ r ∷ []) e s) in
       (f.0, subst (λ (rs : List Relocation). slice_get rs f.0 ≡ Some r) (sym a.relocations) (left lines_ask fixes_ask f.0 r f.1))
+
+  -- and so is what a fix asks
+  pub asked_fix : (k : ℕ) (fix : NamedFix) → slice_get u.fixes k ≡ Some fix → (j : ℕ) × (slice_get o.relocations j ≡ Some (asked_by_fix (length o.code) fix))
+  asked_fix k fix g =
+      let f = behind lines_ask fixes_ask k _ (has_fix u.fixes (length o.code) k fix g) in
+      (f.0, subst (λ (rs : List Relocation). slice_get rs f.0 ≡ Some (asked_by_fix (length o.code) fix)) (sym a.relocations) f.1)
 
   -- the request of a line ends in the code
   pub request_within : (r : Relocation) → Request u o a.places r → r.at + 8 ≤ length o.code

@@ -27,7 +27,7 @@ pub count_set : (registers : List ℕ) (rd v : ℕ) → length (set_register reg
 count_set registers zero v = refl
 count_set registers (suc rd) v = ap (λ (l : List ℕ). length l) (set_is registers (suc rd) v (omega arith)) ∙ length-set registers (suc rd) v
 
-set_twice : (registers : List ℕ) (rd x v : ℕ) → 0 < rd → set_register (set_register registers rd x) rd v ≡ set_register registers rd v
+pub set_twice : (registers : List ℕ) (rd x v : ℕ) → 0 < rd → set_register (set_register registers rd x) rd v ≡ set_register registers rd v
 set_twice registers rd x v some =
     ap (λ (l : List ℕ). set_register l rd v) (set_is registers rd x some)
     ∙ set_is (set registers rd x) rd v some

@@ -5,3 +5,7 @@ pub mod Image
 pub mod Held
 pub mod Leads
 pub mod Jumps
+pub mod Moved
+pub mod Once
+pub mod Standing
+pub mod Laws
