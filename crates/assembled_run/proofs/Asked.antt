@@ -1,6 +1,6 @@
 -- What a unit asks of the linker, one request behind the other.
 use Rattle.std.proofs.Common.{◌≡◌, ◌≢◌, ℕ, zero, suc, ◌+◌, ◌<◌, ◌≤◌, ◌⊎◌, inl, inr, List, [], ◌∷◌, ◌++◌, length, refl, sym, ap, ◌∙◌, subst, arith}
-use Rattle.std.specs.Prelude.{slice_get, slice_index, Option, Some}
+use Rattle.std.specs.Prelude.{slice_get, slice_index, Some}
 use Rattle.std.proofs.lemmas.Option.{slice_get_within}
 use Rattle.rv_assemble.specs.declared.unit.AsmLine.{AsmLine}
 use Rattle.rv_assemble.specs.declared.unit.AsmLine.TheVariants.{Label, Plain, Branch, Call, Address}
@@ -8,7 +8,7 @@ use Rattle.rv_assemble.specs.declared.unit.NamedFix.{NamedFix}
 use Rattle.rv_assemble.specs.declared.unit.AsmUnit.{AsmUnit}
 use Rattle.rv_assemble.specs.declared.object.ObjUnit.{ObjUnit}
 use Rattle.rv_assemble.specs.declared.object.Relocation.{Relocation}
-use Rattle.rv_assemble.specs.declared.object.RelocationKind.TheVariants.{Pair, Word}
+use Rattle.rv_assemble.specs.declared.object.RelocationKind.TheVariants.{Pair}
 use Rattle.rv_assemble.specs.Lines.{LineAt, IsAssembled, IsProperUnit, asked_by, asked_by_lines, asked_by_fix, asked_by_fixes}
 use Rattle.assembled_run.proofs.Follows.{EachFrom, lines_stand, grown, within}
 
@@ -235,7 +235,7 @@ module _ (u : AsmUnit) (o : ObjUnit) (a : IsAssembled u o) where
           let ey = y.1 in
           let d = p.apart f.index h.index f.fix h.fix f.stands h.stands (λ (e : x.0 ≡ y.0). omega (arith, e, ex, ey, lt)) in
           subst (λ (n : ℕ). (n + 8 ≤ r.at) ⊎ (r.at + 8 ≤ n)) (ap (λ (m : Relocation). m.at) f.is)
-              (subst (λ (n : ℕ). (length o.code + f.fix.at + 8 ≤ n) ⊎ (n + 8 ≤ length o.code + f.fix.at)) (ap (λ (m : Relocation). m.at) h.is) (moved (length o.code) f.fix.at h.fix.at d))
+          (subst (λ (n : ℕ). (length o.code + f.fix.at + 8 ≤ n) ⊎ (n + 8 ≤ length o.code + f.fix.at)) (ap (λ (m : Relocation). m.at) h.is) (moved (length o.code) f.fix.at h.fix.at d))
 
   pub apart : (i j : ℕ) (q r : Relocation) → IsProperUnit u → slice_get o.relocations i ≡ Some q → slice_get o.relocations j ≡ Some r → i ≢ j → (q.at + 8 ≤ r.at) ⊎ (r.at + 8 ≤ q.at)
   apart i j q r p g l other = by (either i j other)

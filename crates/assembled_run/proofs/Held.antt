@@ -1,12 +1,12 @@
 -- Words of an image in the memory of a machine that has its code.
-use Rattle.std.proofs.Common.{◌≡◌, ℕ, zero, suc, ◌+◌, ◌-◌, ◌*◌, ◌%◌, ◌^◌, ◌<◌, ◌≤◌, List, length, take, drop, refl, sym, ap, ◌∙◌, subst, arith}
+use Rattle.std.proofs.Common.{◌≡◌, ℕ, zero, suc, ◌+◌, ◌-◌, ◌*◌, ◌%◌, ◌^◌, ◌<◌, ◌≤◌, List, take, drop, refl, sym, ap, ◌∙◌, subst, arith}
 use Rattle.std.specs.Prelude.{slice_index}
 use Rattle.std.proofs.lemmas.List.{get_or-drop, get_or-take}
 use Rattle.byteorder.specs.Endian.{little_from}
 use Rattle.jf_base.specs.Numbers.{number_low_first}
 use Rattle.program_image.specs.declared.Image.{Image}
 use Rattle.rv_isa.specs.declared.insn.Insn.{Insn}
-use Rattle.rv_isa.specs.Encode.{encode_of, IsEncodable}
+use Rattle.rv_isa.specs.Encode.{encode_of}
 use Rattle.rv_machine.specs.declared.event.Mode.TheVariants.{Ready}
 use Rattle.rv_machine.specs.Memory.{number_at}
 use Rattle.rv_machine.specs.State.{State}

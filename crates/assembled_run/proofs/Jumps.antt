@@ -1,5 +1,5 @@
 -- Pairs, jumps and conditional branches that stand in an image, done by a machine.
-use Rattle.std.proofs.Common.{◌≡◌, ℕ, zero, suc, ◌+◌, ◌-◌, ◌*◌, ◌/◌, ◌%◌, ◌^◌, ◌<◌, ◌≤◌, ◌⊎◌, inl, inr, List, length, Bool, true, false, refl, sym, ap, ◌∙◌, subst, arith, lit<}
+use Rattle.std.proofs.Common.{◌≡◌, ℕ, zero, suc, ◌+◌, ◌*◌, ◌/◌, ◌%◌, ◌^◌, ◌<◌, ◌≤◌, inl, inr, List, length, Bool, true, false, refl, sym, ap, ◌∙◌, subst, arith, lit<}
 use Rattle.std.specs.Prelude.{slice_index, not, nat_eq}
 use Rattle.std.proofs.lemmas.Bool.{cond-false, ne_eqb}
 use Rattle.std.proofs.lemmas.List.{length-set, get_or-set_same, set-set, set-get_or}
@@ -7,11 +7,10 @@ use Rattle.std.proofs.Math.ListN.{set}
 use Rattle.program_image.specs.declared.Image.{Image}
 use Rattle.rv_isa.specs.declared.insn.Insn.{Insn}
 use Rattle.rv_isa.specs.declared.insn.Insn.TheVariants.{Auipc, Jal, Jalr, Addi, Beq, Bne, Blt, Bge, Bltu, Bgeu}
-use Rattle.rv_isa.specs.Encode.{encode_of, IsEncodable}
 use Rattle.rv_machine.specs.State.{State, register, set_register}
 use Rattle.rv_machine.specs.Alu.{sum_of}
 use Rattle.rv_machine.specs.Step.{act, branch}
-use Rattle.rv_machine.specs.Exec.{Run, turn}
+use Rattle.rv_machine.specs.Exec.{Run}
 use Rattle.rv_machine.proofs.Rows.{auipc_turn, jal_turn, jalr_turn, addi_turn, taken_turn, passed_turn}
 use Rattle.rv_assemble.specs.Lines.{Stands, MakesDistance, Jumps, Branches, distance, aimed, opposite}
 use Rattle.rv_assemble.specs.Places.{IsConditional}
@@ -55,7 +54,7 @@ module _ (image : Image) where
       let inside = p.inside in
       let small = p.small in
       leads_one r _ _ h.ready (auipc_turn r rd imm (sum_of (65536 + at) imm) (65536 + (at + 4)) (insn_here image r.state at (Auipc rd imm) h p.whole (omega (arith, le, inside)) st) st.word.encodable
-          (ap (λ (x : ℕ). sum_of x imm) h.place) (next_here r.state.pc at h.place (omega (arith, le, inside, small))))
+      (ap (λ (x : ℕ). sum_of x imm) h.place) (next_here r.state.pc at h.place (omega (arith, le, inside, small))))
 
   module _ (r : Run) (at next rs1 target : ℕ) (h : IsAt image r.state (65536 + at)) (p : IsPlace image at next) (le : at + 8 ≤ next) (low_target : target < 4000000000) (some : 0 < rs1) (few : rs1 < 32) where
     -- the machine behind the AUIPC
@@ -145,8 +144,7 @@ module _ (image : Image) where
       let same : set_register r.state.registers 6 (register r.state 6) ≡ r.state.registers = set-get_or r.state.registers 6 0 in
       let behind : 65536 + (at + 4) ≡ 65536 + next = omega (arith, n) in
       let goes = jal_turn r rd (distance at target) (65536 + target) (65536 + next) (insn_here image r.state at (Jal rd (distance at target)) h p.whole (omega (arith, n, inside)) j.1) j.1.word.encodable to (omega (arith, whole))
-      (next_here r.state.pc at h.place (omega (arith, n, inside, small)) ∙ behind) in
-      (
+      (next_here r.state.pc at h.place (omega (arith, n, inside, small)) ∙ behind) in (
         register r.state 6,
         record {
           count = 1;
@@ -158,8 +156,7 @@ module _ (image : Image) where
   jumps r rd at next target h p low whole (inr j) =
       let n = j.0 in
       let f = pair_jumps r at next 6 target h p (omega (arith, n)) low (lit< tt) (lit< tt) rd whole j.1 in
-      let e : at + 8 ≡ next = sym n in
-      (
+      let e : at + 8 ≡ next = sym n in (
         f.0,
         record {
           count = 2;
@@ -206,16 +203,16 @@ module _ (image : Image) (r : Run) (i : Insn) (at next target : ℕ) (can : IsCo
       let small = p.small in
       let behind : 65536 + (at + 4) ≡ 65536 + next = omega (arith, n) in
       leads_one r _ _ h.ready (passed_turn r (aimed i (distance at target)) (is_taken i r.state) (distance at target) (65536 + next)
-          (insn_here image r.state at (aimed i (distance at target)) h p.whole (omega (arith, n, inside)) j.1) j.1.word.encodable (aimed_acts i (distance at target) r.state can) not_so
-          (next_here r.state.pc at h.place (omega (arith, n, inside, small)) ∙ behind))
+      (insn_here image r.state at (aimed i (distance at target)) h p.whole (omega (arith, n, inside)) j.1) j.1.word.encodable (aimed_acts i (distance at target) r.state can) not_so
+      (next_here r.state.pc at h.place (omega (arith, n, inside, small)) ∙ behind))
   passes (inr j) not_so =
       let inside = p.inside in
       let small = p.small in
       let le = after_first j.1 in
       let to : sum_of r.state.pc (distance at next) ≡ 65536 + next = ap (λ (x : ℕ). sum_of x (distance at next)) h.place ∙ sum_distance at next (at_small le) (omega (arith, inside, small)) in
       leads_one r _ _ h.ready (taken_turn r (aimed (opposite i) (distance at next)) (not (is_taken i r.state)) (distance at next) (65536 + next)
-          (insn_here image r.state at (aimed (opposite i) (distance at next)) h p.whole (omega (arith, le, inside)) j.0) j.0.word.encodable (opposite_acts i (distance at next) r.state can) (ap not not_so) to
-          (omega (arith, next_whole)))
+      (insn_here image r.state at (aimed (opposite i) (distance at next)) h p.whole (omega (arith, le, inside)) j.0) j.0.word.encodable (opposite_acts i (distance at next) r.state can) (ap not not_so) to
+      (omega (arith, next_whole)))
     where
       after_first : Jumps image.bytes 0 (at + 4) next target → at + 4 ≤ next
       after_first (inl k) = let n = k.0 in omega (arith, n)
@@ -229,8 +226,7 @@ module _ (image : Image) (r : Run) (i : Insn) (at next target : ℕ) (can : IsCo
       let to : sum_of r.state.pc (distance at target) ≡ 65536 + target = ap (λ (x : ℕ). sum_of x (distance at target)) h.place ∙ sum_distance at target (at_small (omega (arith, n))) low in
       let same : set_register r.state.registers 6 (register r.state 6) ≡ r.state.registers = set-get_or r.state.registers 6 0 in
       let goes = taken_turn r (aimed i (distance at target)) (is_taken i r.state) (distance at target) (65536 + target)
-      (insn_here image r.state at (aimed i (distance at target)) h p.whole (omega (arith, n, inside)) j.1) j.1.word.encodable (aimed_acts i (distance at target) r.state can) so to (omega (arith, whole)) in
-      (
+      (insn_here image r.state at (aimed i (distance at target)) h p.whole (omega (arith, n, inside)) j.1) j.1.word.encodable (aimed_acts i (distance at target) r.state can) so to (omega (arith, whole)) in (
         register r.state 6,
         record {
           count = 1;
@@ -246,13 +242,12 @@ module _ (image : Image) (r : Run) (i : Insn) (at next target : ℕ) (can : IsCo
       let le = after_first j.1 in
       let w = moved_to r r.state.registers (65536 + (at + 4)) in
       let first = leads_one r _ _ h.ready (passed_turn r (aimed (opposite i) (distance at next)) (not (is_taken i r.state)) (distance at next) (65536 + (at + 4))
-          (insn_here image r.state at (aimed (opposite i) (distance at next)) h p.whole (omega (arith, le, inside)) j.0) j.0.word.encodable (opposite_acts i (distance at next) r.state can) (ap not so)
-          (next_here r.state.pc at h.place (omega (arith, le, inside, small)))) in
+      (insn_here image r.state at (aimed (opposite i) (distance at next)) h p.whole (omega (arith, le, inside)) j.0) j.0.word.encodable (opposite_acts i (distance at next) r.state can) (ap not so)
+      (next_here r.state.pc at h.place (omega (arith, le, inside, small)))) in
       let there : IsAt image w.state (65536 + (at + 4)) = at_moved image r (65536 + at) r.state.registers (65536 + (at + 4)) h refl in
       let rest = jumps image w 0 (at + 4) next target there (record { whole = omega (arith, even); inside = inside; small = small }) low whole j.1 in
       let some = rest.1.some in
-      let few = rest.1.few in
-      (
+      let few = rest.1.few in (
         rest.0,
         record { count = 1 + rest.1.count; some = omega (arith, some); few = omega (arith, few); leads = leads_then 1 rest.1.count r w _ first rest.1.leads },
       )

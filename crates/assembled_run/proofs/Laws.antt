@@ -1,9 +1,8 @@
 -- The laws of lines.
-use Rattle.std.proofs.Common.{◌≡◌, ℕ, zero, suc, ◌+◌, ◌-◌, ◌%◌, ◌^◌, ◌<◌, ◌≤◌, ◌⊎◌, inl, inr, List, length, take, min, ◌++◌, refl, sym, ap, ◌∙◌, subst, arith, lit<, length-append}
-use Rattle.std.specs.Prelude.{slice_get, slice_index, Some, Option, None, replicate}
+use Rattle.std.proofs.Common.{◌≡◌, ℕ, zero, suc, ◌+◌, ◌-◌, ◌%◌, ◌<◌, List, length, min, refl, ap, ◌∙◌, subst, arith, lit<, length-append}
+use Rattle.std.specs.Prelude.{slice_get, slice_index, Some, replicate}
 use Rattle.std.proofs.lemmas.List.{take-append-le}
 use Rattle.std.proofs.lemmas.Option.{slice_get_within}
-use Rattle.jf_base.specs.declared.place.Limits.{Limits}
 use Rattle.program_image.specs.declared.Image.{Image}
 use Rattle.rv_isa.specs.declared.insn.Insn.{Insn}
 use Rattle.rv_isa.specs.declared.insn.Insn.TheVariants.{Jal, Addi}
@@ -18,16 +17,16 @@ use Rattle.rv_machine.specs.State.{State, set_register}
 use Rattle.rv_machine.specs.Loaded.{loaded, memory_size}
 use Rattle.rv_machine.specs.Step.{one}
 use Rattle.rv_machine.specs.Exec.{Run}
-use Rattle.rv_machine.proofs.Laws.{IsWord, IsAtWord, one_at}
+use Rattle.rv_machine.proofs.Laws.{IsAtWord, one_at}
 use Rattle.rv_machine.proofs.Keeps.{steps}
 use Rattle.assembled_run.specs.Program.{AreLinked, UnitAt, line_address, name_address}
-use Rattle.assembled_run.specs.Machine.{HasCodeOf, IsAt, moved_to, Leads, Within}
+use Rattle.assembled_run.specs.Machine.{IsAt, moved_to, Leads}
 use Rattle.assembled_run.specs.Theorems.{Begins, KeepsCode, AreInCode, LabelStays, PlainSteps, JumpLeads, BranchLeads, CallLeads, AddressLeads, FixHolds}
 use Rattle.assembled_run.proofs.Follows.{within}
 use Rattle.assembled_run.proofs.Asked.{asked_fix}
-use Rattle.assembled_run.proofs.Held.{insn_here, word_here, code_kept}
+use Rattle.assembled_run.proofs.Held.{insn_here, code_kept}
 use Rattle.assembled_run.proofs.Jumps.{IsPlace, jumps, takes, passes, pair_jumps, pair_adds, pair_skips, set_twice}
-use Rattle.assembled_run.proofs.Standing.{place_at, place_whole, place_small, plain_stands, label_place, jump_stands, branch_stands, call_stands, address_stands, offset_code, name_lies, start_whole, code_fits, code_len_small}
+use Rattle.assembled_run.proofs.Standing.{place_at, place_whole, place_small, plain_stands, label_place, jump_stands, branch_stands, call_stands, address_stands, offset_code, name_lies, code_fits}
 
 pub keeps_code : KeepsCode
 keeps_code image s given h = code_kept image s (one s given).0 (steps s given) h
@@ -105,8 +104,8 @@ call_leads us os image made i w k name g j d is some r h =
     let back : 65536 + (at + 8) ≡ line_address w (k + 1) = omega (arith, n) in
     let to : 65536 + offset_of os j d.object 0 ≡ line_address d 0 = omega (arith, first) in
     subst (λ (t : ℕ). Leads 2 r (moved_to r (set_register r.state.registers 1 (line_address w (k + 1))) t)) to
-        (subst (λ (b : ℕ). Leads 2 r (moved_to r (set_register r.state.registers 1 b) (65536 + offset_of os j d.object 0))) back
-        (subst (λ (rs : List ℕ). Leads 2 r (moved_to r rs (65536 + offset_of os j d.object 0))) (set_twice r.state.registers 1 done.0 (65536 + (at + 8)) (lit< tt)) done.1))
+    (subst (λ (b : ℕ). Leads 2 r (moved_to r (set_register r.state.registers 1 b) (65536 + offset_of os j d.object 0))) back
+    (subst (λ (rs : List ℕ). Leads 2 r (moved_to r rs (65536 + offset_of os j d.object 0))) (set_twice r.state.registers 1 done.0 (65536 + (at + 8)) (lit< tt)) done.1))
 
 -- the same for each register
 address_by : (image : Image) (r : Run) (at next rd target : ℕ) → rd < 32 → IsAt image r.state (65536 + at) → IsPlace image at next → next ≡ at + 8 → target < 2000000000 → MakesDistance image.bytes at rd (distance at target) (λ low. Addi rd rd low)

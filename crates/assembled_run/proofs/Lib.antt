@@ -1,7 +1,7 @@
 pub mod Follows
 pub mod Asked
 pub mod Linkable
-pub mod Image
+pub mod Bytes
 pub mod Held
 pub mod Leads
 pub mod Jumps
@@ -9,3 +9,4 @@ pub mod Moved
 pub mod Once
 pub mod Standing
 pub mod Laws
+pub mod Closed

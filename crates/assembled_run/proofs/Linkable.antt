@@ -1,5 +1,5 @@
 -- Assembled units can be linked.
-use Rattle.std.proofs.Common.{◌≡◌, ◌≢◌, ℕ, zero, suc, ◌+◌, ◌<◌, ◌≤◌, ◌⊎◌, inl, inr, List, [], ◌∷◌, length, refl, sym, ap, ◌∙◌, subst, arith}
+use Rattle.std.proofs.Common.{◌≡◌, ℕ, zero, suc, ◌+◌, ◌<◌, ◌⊎◌, inl, inr, List, [], ◌∷◌, length, refl, sym, ap, subst, arith}
 use Rattle.std.specs.Prelude.{slice_get, slice_index, Option, Some, None}
 use Rattle.std.proofs.lemmas.Option.{slice_get_within}
 use Rattle.rv_assemble.specs.declared.unit.AsmLine.{AsmLine}
@@ -8,11 +8,11 @@ use Rattle.rv_assemble.specs.declared.unit.AsmUnit.{AsmUnit}
 use Rattle.rv_assemble.specs.declared.object.ObjUnit.{ObjUnit}
 use Rattle.rv_assemble.specs.declared.object.Relocation.{Relocation}
 use Rattle.rv_assemble.specs.declared.object.RelocationKind.{RelocationKind}
-use Rattle.rv_assemble.specs.declared.object.RelocationKind.TheVariants.{Pair, Word}
+use Rattle.rv_assemble.specs.declared.object.RelocationKind.TheVariants.{Word}
 use Rattle.rv_assemble.specs.Lines.{IsAssembled, IsProperUnit, asked_by}
-use Rattle.linker.specs.Linked.{Defines, IsInside, IsLinkable, AreLinkable}
-use Rattle.assembled_run.specs.Program.{AreAssembled, AsksInCode, AsksInImage, AsksFor, StayWithin, UnitAt}
-use Rattle.assembled_run.proofs.Asked.{Request, OfFix, origin, apart, request_within, fix_behind}
+use Rattle.linker.specs.Linked.{IsInside, AreLinkable}
+use Rattle.assembled_run.specs.Program.{AreAssembled, AsksFor, Names, StayWithin, UnitAt}
+use Rattle.assembled_run.proofs.Asked.{Request, OfFix, origin, apart, request_within}
 
 -- the object of a unit, and the unit of an object
 found : {X : Type 0} (xs : List X) (k : ℕ) → k < length xs → (x : X) × (slice_get xs k ≡ Some x)
@@ -61,6 +61,23 @@ asks u o a r (inl q) = by q.of.line q.of.stands q.of.asks
         let n : name ≡ r.name = ap (λ (x : Relocation). x.name) (is _ s) in
         let m : offset ≡ r.offset = ap (λ (x : Relocation). x.offset) (is _ s) in
         inr (inl (q.of.index, (rd, subst (λ (y : ℕ). slice_get u.lines q.of.index ≡ Some (Address rd r.name y)) m (subst (λ (y : List ℕ). slice_get u.lines q.of.index ≡ Some (Address rd y offset)) n g))))
+
+-- and its name is one that the unit calls or asks for
+pub names_of : (u : AsmUnit) (o : ObjUnit) (a : IsAssembled u o) (r : Relocation) → Request u o a.places r ⊎ OfFix u o r → Names u r.name
+names_of u o a r (inr f) = inr (r.offset, inr (f.index, (f.fix, f.stands, ap (λ (x : Relocation). x.name) f.is, ap (λ (x : Relocation). x.offset) f.is)))
+names_of u o a r (inl q) = by q.of.line q.of.stands q.of.asks
+  where
+    is : (x : Relocation) → x ∷ [] ≡ r ∷ [] → x ≡ r
+    is x e = cc
+
+    by : (line : AsmLine) → slice_get u.lines q.of.index ≡ Some line → asked_by (slice_index a.places q.of.index) line ≡ r ∷ [] → Names u r.name
+    by (Label label) g s = cc
+    by (Plain insn) g s = cc
+    by (Branch insn to) g s = cc
+    by (Call name) g s = inl (q.of.index, subst (λ (y : List ℕ). slice_get u.lines q.of.index ≡ Some (Call y)) (ap (λ (x : Relocation). x.name) (is _ s)) g)
+    by (Address rd name offset) g s =
+        let n : name ≡ r.name = ap (λ (x : Relocation). x.name) (is _ s) in
+        inr (offset, inl (q.of.index, (rd, subst (λ (y : List ℕ). slice_get u.lines q.of.index ≡ Some (Address rd y offset)) n g)))
 
 inside : (u : AsmUnit) (o : ObjUnit) (a : IsAssembled u o) → IsProperUnit u → (r : Relocation) → Request u o a.places r ⊎ OfFix u o r → IsInside o r.at r.kind
 inside u o a p r (inl q) = subst (λ (k : RelocationKind). IsInside o r.at k) (sym q.kind) (request_within u o a r q)

@@ -1,9 +1,9 @@
 -- Lines of a unit in the image: words that stay as they were assembled, and pairs that are filled.
-use Rattle.std.proofs.Common.{◌≡◌, ℕ, ◌+◌, ◌-◌, ◌*◌, ◌/◌, ◌%◌, ◌^◌, ◌<◌, ◌≤◌, ◌⊎◌, inl, inr, List, length, refl, sym, ap, ◌∙◌, subst, arith, lit<}
+use Rattle.std.proofs.Common.{◌≡◌, ℕ, ◌+◌, ◌*◌, ◌%◌, ◌^◌, ◌<◌, ◌≤◌, inl, inr, List, length, sym, ap, ◌∙◌, subst, arith, lit<}
 use Rattle.jf_base.specs.Numbers.{number_low_first}
 use Rattle.rv_isa.specs.declared.insn.Insn.{Insn}
 use Rattle.rv_isa.specs.declared.insn.Insn.TheVariants.{Auipc, Jal, Jalr, Addi}
-use Rattle.rv_isa.specs.Encode.{encode_of, IsEncodable, IsSigned, upper_word, immediate_word}
+use Rattle.rv_isa.specs.Encode.{encode_of, upper_word, immediate_word}
 use Rattle.rv_assemble.specs.Lines.{Stands, MakesDistance, Jumps, Branches, Reaches, distance, aimed, opposite}
 use Rattle.rv_assemble.specs.Places.{IsConditional}
 use Rattle.linker.specs.Patched.{HasDistance}

@@ -1,5 +1,5 @@
 -- A name that no unit defines twice has one definition.
-use Rattle.std.proofs.Common.{◌≡◌, ℕ, zero, suc, ◌+◌, ◌<◌, ◌≤◌, ◌⊎◌, inl, inr, List, [], ◌∷◌, ◌++◌, length, refl, sym, ap, ◌∙◌, subst, arith}
+use Rattle.std.proofs.Common.{◌≡◌, ℕ, zero, suc, ◌+◌, ◌<◌, ◌≤◌, ◌⊎◌, inl, inr, List, [], ◌∷◌, ◌++◌, refl, sym, ap, ◌∙◌, subst, arith}
 use Rattle.std.specs.Prelude.{slice_get, Some, bytes_eq, true, Bool, if◌then◌else◌}
 use Rattle.std.proofs.lemmas.Slice.Eq.{bytes_eq-Decides}
 use Rattle.rv_assemble.specs.declared.object.ObjUnit.{ObjUnit}
@@ -9,7 +9,7 @@ use Rattle.linker.specs.Linked.{Defines, IsFaulty}
 bytes_eq-same : (a : List ℕ) → bytes_eq a a ≡ true
 bytes_eq-same a = (bytes_eq-Decides a a).1 refl
 
-count-append : (name : List ℕ) (xs ys : List Entry) → count_of name (xs ++ ys) ≡ count_of name xs + count_of name ys
+pub count-append : (name : List ℕ) (xs ys : List Entry) → count_of name (xs ++ ys) ≡ count_of name xs + count_of name ys
 count-append name [] ys = omega arith
 count-append name (x ∷ xs) ys = let r = count-append name xs ys in omega (arith, r)
 
@@ -22,7 +22,7 @@ count-unit k (n ∷ names) zero place name g =
     subst P (sym t) (omega arith)
 count-unit k (n ∷ names) (suc j) place name g = let r = count-unit k names j place name g in omega (arith, r)
 
-count-from : (k : ℕ) (os : List ObjUnit) (name : List ℕ) (i place : ℕ) (o : ObjUnit) → Defines os name i o place → 1 ≤ count_of name (entries_from k os)
+pub count-from : (k : ℕ) (os : List ObjUnit) (name : List ℕ) (i place : ℕ) (o : ObjUnit) → Defines os name i o place → 1 ≤ count_of name (entries_from k os)
 count-from k [] name i place o d = let g = d.0 in cc
 count-from k (u ∷ os) name zero place o d =
     let g = d.0 in

@@ -1,28 +1,28 @@
 -- The lines of a unit in the linked image, at their addresses.
-use Rattle.std.proofs.Common.{◌≡◌, ℕ, zero, suc, ◌+◌, ◌-◌, ◌*◌, ◌/◌, ◌%◌, ◌^◌, ◌<◌, ◌≤◌, ◌⊎◌, inl, inr, List, [], ◌∷◌, length, take, refl, sym, ap, ◌∙◌, subst, arith, length-append}
+use Rattle.std.proofs.Common.{◌≡◌, ℕ, zero, suc, ◌+◌, ◌%◌, ◌<◌, ◌≤◌, ◌⊎◌, inl, inr, List, [], ◌∷◌, length, take, refl, sym, ap, ◌∙◌, subst, arith, length-append}
 use Rattle.std.specs.Prelude.{slice_get, slice_index, Some}
 use Rattle.std.proofs.lemmas.Option.{slice_get_within}
 use Rattle.jf_base.specs.Numbers.{number_low_first}
 use Rattle.program_image.specs.declared.Image.{Image}
 use Rattle.rv_isa.specs.declared.insn.Insn.{Insn}
-use Rattle.rv_isa.specs.declared.insn.Insn.TheVariants.{Auipc, Jal, Jalr, Addi}
+use Rattle.rv_isa.specs.declared.insn.Insn.TheVariants.{Jal, Jalr, Addi}
 use Rattle.rv_assemble.specs.declared.unit.AsmLine.{AsmLine}
 use Rattle.rv_assemble.specs.declared.unit.AsmLine.TheVariants.{Label, Plain, Branch, Call, Address}
 use Rattle.rv_assemble.specs.declared.unit.AsmUnit.{AsmUnit}
 use Rattle.rv_assemble.specs.declared.object.ObjUnit.{ObjUnit}
 use Rattle.rv_assemble.specs.declared.object.Relocation.{Relocation}
 use Rattle.rv_assemble.specs.declared.object.RelocationKind.TheVariants.{Pair}
-use Rattle.rv_assemble.specs.Lines.{Stands, MakesDistance, Jumps, Branches, Reaches, LineAt, IsAssembled, IsProperUnit, asked_by, distance}
+use Rattle.rv_assemble.specs.Lines.{Stands, MakesDistance, Jumps, Branches, LineAt, asked_by, distance}
 use Rattle.rv_assemble.specs.Places.{IsConditional}
-use Rattle.linker.specs.Layout.{codes, code_size, laid, offset_of}
+use Rattle.linker.specs.Layout.{codes, laid, offset_of}
 use Rattle.linker.specs.Patched.{HasDistance}
-use Rattle.linker.specs.Linked.{NameLies, Defines, IsLinkable}
-use Rattle.linker.proofs.Sites.{code_before, code_within, codes-fit, code_next, length-laid, part, lies_below}
-use Rattle.assembled_run.specs.Program.{AreAssembled, AreLinked, UnitAt}
-use Rattle.assembled_run.proofs.Follows.{further, within, whole, whole_code, grown_at}
-use Rattle.assembled_run.proofs.Asked.{Request, OfFix, origin, asked, fix_behind}
+use Rattle.linker.specs.Linked.{NameLies, Defines}
+use Rattle.linker.proofs.Sites.{code_before, code_within, codes-fit, length-laid, part, lies_below}
+use Rattle.assembled_run.specs.Program.{AreLinked, UnitAt}
+use Rattle.assembled_run.proofs.Follows.{further, within, whole, whole_code}
+use Rattle.assembled_run.proofs.Asked.{Request, origin, asked, fix_behind}
 use Rattle.assembled_run.proofs.Linkable.{unit_at, named}
-use Rattle.assembled_run.proofs.Image.{number_kept, laid_number, IsClear}
+use Rattle.assembled_run.proofs.Bytes.{number_kept, laid_number, IsClear}
 use Rattle.assembled_run.proofs.Jumps.{IsPlace}
 use Rattle.assembled_run.proofs.Moved.{jumps_kept, branches_kept, conditional_reaches, call_filled, address_filled}
 use Rattle.assembled_run.proofs.Once.{one_definition}
@@ -182,8 +182,7 @@ module _ (us : List AsmUnit) (os : List ObjUnit) (image : Image) (made : AreLink
     pub jump_stands : (k rd imm to : ℕ) → slice_get w.unit.lines k ≡ Some (Branch (Jal rd imm) to)
         → (m : ℕ) × (slice_get w.unit.lines m ≡ Some (Label to)) × Jumps image.bytes rd (start + place k) (start + place (k + 1)) (start + place m)
     jump_stands k rd imm to g =
-        let h = line_fits k (Branch (Jal rd imm) to) g in
-        (
+        let h = line_fits k (Branch (Jal rd imm) to) g in (
           h.0,
           h.1,
           jumps_kept w.object.code image.bytes start (place k) (place (k + 1)) (kept k (Branch (Jal rd imm) to) g (λ p. refl)) start_small (next_small k _ g) rd (place k) (place (k + 1)) (place h.0)
@@ -194,8 +193,7 @@ module _ (us : List AsmUnit) (os : List ObjUnit) (image : Image) (made : AreLink
         → (m : ℕ) × (slice_get w.unit.lines m ≡ Some (Label to)) × Branches image.bytes insn (start + place k) (start + place (k + 1)) (start + place m)
     branch_stands k insn to can g =
         let h = line_fits k (Branch insn to) g in
-        let b = conditional_reaches w.object.code insn (place k) (place (k + 1)) (place h.0) can h.2 in
-        (
+        let b = conditional_reaches w.object.code insn (place k) (place (k + 1)) (place h.0) can h.2 in (
           h.0,
           h.1,
           branches_kept w.object.code image.bytes start (place k) (place (k + 1)) (kept k (Branch insn to) g (λ p. refl)) start_small (next_small k _ g) insn (place k) (place (k + 1)) (place h.0)
@@ -220,8 +218,14 @@ module _ (us : List AsmUnit) (os : List ObjUnit) (image : Image) (made : AreLink
     -- the name of a unit lies at its start
     pub name_lies : (j : ℕ) (d : UnitAt us os j) (name : List ℕ) (more target : ℕ) → d.unit.name ≡ name → NameLies os name more target → target ≡ offset_of os j d.object more
     name_lies j d name more target is n =
-        let defined : Defines os name j d.object 0 = (d.is_object, (0, (let e : slice_get d.object.names 0 ≡ Some (d.unit.name, 0) = ap (λ (ns : List (List ℕ × ℕ)). slice_get ns 0) d.assembled.names in
-            subst (λ (m : List ℕ). slice_get d.object.names 0 ≡ Some (m, 0)) is e))) in
+        let defined : Defines os name j d.object 0 = (
+          d.is_object,
+          (
+            0,
+            (let e : slice_get d.object.names 0 ≡ Some (d.unit.name, 0) = ap (λ (ns : List (List ℕ × ℕ)). slice_get ns 0) d.assembled.names in
+                subst (λ (m : List ℕ). slice_get d.object.names 0 ≡ Some (m, 0)) is e),
+          ),
+        ) in
         let number = one_definition os name n.index j n.place 0 n.unit d.object (made.sound name) n.defines defined in
         let object : n.unit ≡ d.object = same_object n.unit d.object (sym n.defines.0 ∙ ap (λ (m : ℕ). slice_get os m) number ∙ d.is_object) in
         let names : slice_get d.object.names n.defines.1.0 ≡ Some (name, n.place) = subst (λ (o : ObjUnit). slice_get o.names n.defines.1.0 ≡ Some (name, n.place)) object n.defines.1.1 in
@@ -254,8 +258,7 @@ module _ (us : List AsmUnit) (os : List ObjUnit) (image : Image) (made : AreLink
         let there = name_lies j d name 0 done.target is done.lies in
         let low = target_small k (Call name) r done.target g refl done.lies in
         let has = subst (λ (m : ℕ). HasDistanceTo (start + place k) m) there (subst (λ (m : ℕ). HasDistanceTo m done.target) here done.has) in
-        let e : start + place k + 4 ≡ start + (place k + 4) = omega arith in
-        (
+        let e : start + place k + 4 ≡ start + (place k + 4) = omega arith in (
           n,
           omega (arith, low, there),
           call_filled w.object.code (laid os) image.bytes (place k) (start + place k) (distance (start + place k) (offset_of os j d.object 0))
@@ -281,8 +284,7 @@ module _ (us : List AsmUnit) (os : List ObjUnit) (image : Image) (made : AreLink
         let there = name_lies j d name offset done.target is done.lies in
         let low = target_small k (Address rd name offset) r done.target g refl done.lies in
         let has = subst (λ (m : ℕ). HasDistanceTo (start + place k) m) there (subst (λ (m : ℕ). HasDistanceTo m done.target) here done.has) in
-        let e : start + place k + 4 ≡ start + (place k + 4) = omega arith in
-        (
+        let e : start + place k + 4 ≡ start + (place k + 4) = omega arith in (
           n,
           omega (arith, low, there),
           address_filled w.object.code (laid os) image.bytes (place k) (start + place k) (distance (start + place k) (offset_of os j d.object offset))

@@ -2,17 +2,22 @@
 use Rattle.std.specs.Prelude.{ℕ, ◌≡◌, ◌<◌, ◌≤◌, ◌+◌, ◌⊎◌, List, length, take, slice_index, slice_get, Some}
 use Rattle.program_image.specs.declared.Image.{Image}
 use Rattle.rv_assemble.specs.declared.unit.AsmUnit.{AsmUnit}
-use Rattle.rv_assemble.specs.declared.unit.AsmLine.TheVariants.{Address}
+use Rattle.rv_assemble.specs.declared.unit.AsmLine.TheVariants.{Call, Address}
 use Rattle.rv_assemble.specs.declared.unit.NamedFix.{NamedFix}
 use Rattle.rv_assemble.specs.declared.object.ObjUnit.{ObjUnit}
 use Rattle.rv_assemble.specs.Lines.{IsAssembled, IsProperUnit}
 use Rattle.linker.specs.Layout.{codes, offset_of}
+use Rattle.linker.specs.Names.{entry_name}
 use Rattle.linker.specs.Linked.{base, IsLinked, IsFaulty, AreLinkable}
+
+-- each unit can be assembled
+abbrev pub AreProper : List AsmUnit → Type 0
+AreProper us = (i : ℕ) (u : AsmUnit) → slice_get us i ≡ Some u → IsProperUnit u
 
 -- each object is that of the proper unit with its number
 pub record AreAssembled (us : List AsmUnit) (os : List ObjUnit) : Type 0 where
   pub count : length os ≡ length us
-  pub proper : (i : ℕ) (u : AsmUnit) → slice_get us i ≡ Some u → IsProperUnit u
+  pub proper : AreProper us
   pub each : (i : ℕ) (u : AsmUnit) (o : ObjUnit) → slice_get us i ≡ Some u → slice_get os i ≡ Some o → IsAssembled u o
 
 -- a unit asks for the address of the name plus the offset, in its code or in its image
@@ -24,6 +29,20 @@ AsksInImage u name offset = (k : ℕ) × ((fix : NamedFix) × (slice_get u.fixes
 
 abbrev pub AsksFor : AsmUnit → (name : List ℕ) (offset : ℕ) → Type 0
 AsksFor u name offset = AsksInCode u name offset ⊎ AsksInImage u name offset
+
+-- a unit calls the name or asks for an address of it
+abbrev pub Names : AsmUnit → (name : List ℕ) → Type 0
+Names u name = ((k : ℕ) × (slice_get u.lines k ≡ Some (Call name))) ⊎ ((offset : ℕ) × AsksFor u name offset)
+
+-- one of the units has the name
+abbrev pub IsNameOf : List AsmUnit → (name : List ℕ) → Type 0
+IsNameOf us name = (i : ℕ) × ((u : AsmUnit) × (slice_get us i ≡ Some u) × (u.name ≡ name))
+
+-- each unit has a name of its own, and each name that is asked for is one of theirs, `main` among them
+pub record AreClosed (us : List AsmUnit) : Type 0 where
+  pub own : (i j : ℕ) (u v : AsmUnit) → slice_get us i ≡ Some u → slice_get us j ≡ Some v → u.name ≡ v.name → i ≡ j
+  pub named : (i : ℕ) (u : AsmUnit) (name : List ℕ) → slice_get us i ≡ Some u → Names u name → IsNameOf us name
+  pub main : IsNameOf us entry_name
 
 -- no unit asks for an address behind the end of the unit that the name is of
 abbrev pub StayWithin : List AsmUnit → List ObjUnit → Type 0
@@ -37,6 +56,10 @@ pub record AreLinked (us : List AsmUnit) (os : List ObjUnit) (image : Image) : T
   pub linked : IsLinked os image
   pub sound : (name : List ℕ) → IsFaulty os name → ⊥
   pub small : length image.bytes < 2000000000
+
+-- the image is that of the units
+abbrev pub IsImageOf : List AsmUnit → Image → Type 0
+IsImageOf us image = (os : List ObjUnit) × AreLinked us os image
 
 -- the i-th unit with its object
 pub record UnitAt (us : List AsmUnit) (os : List ObjUnit) (i : ℕ) : Type 0 where

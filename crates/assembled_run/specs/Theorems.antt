@@ -1,5 +1,5 @@
 -- What each line of a unit does in a machine that has the code of the image. x6 is the register that far jumps use.
-use Rattle.std.specs.Prelude.{ℕ, ◌≡◌, ◌<◌, ◌≤◌, ◌+◌, ◌%◌, ◌^◌, List, length, slice_get, slice_index, Some, true, false, Option}
+use Rattle.std.specs.Prelude.{ℕ, ◌≡◌, ◌<◌, ◌≤◌, ◌+◌, ◌%◌, List, length, slice_get, Some, true, false, Option}
 use Rattle.jf_base.specs.declared.place.Limits.{Limits}
 use Rattle.jf_base.specs.Numbers.{number_low_first}
 use Rattle.program_image.specs.declared.Image.{Image}
@@ -12,18 +12,21 @@ use Rattle.rv_assemble.specs.declared.object.ObjUnit.{ObjUnit}
 use Rattle.rv_assemble.specs.Places.{IsConditional}
 use Rattle.linker.specs.Names.{entry_name}
 use Rattle.linker.specs.Layout.{offset_of}
-use Rattle.linker.specs.Linked.{AreLinkable}
-use Rattle.rv_machine.specs.declared.event.Mode.TheVariants.{Ready}
+use Rattle.linker.specs.Linked.{AreLinkable, IsFaulty}
 use Rattle.rv_machine.specs.State.{State, set_register}
 use Rattle.rv_machine.specs.Step.{act, settled, one}
 use Rattle.rv_machine.specs.Loaded.{loaded}
 use Rattle.rv_machine.specs.Exec.{Run}
-use Rattle.assembled_run.specs.Program.{AreAssembled, StayWithin, AreLinked, UnitAt, line_address, name_address}
+use Rattle.assembled_run.specs.Program.{AreAssembled, StayWithin, AreClosed, AreLinked, UnitAt, line_address, name_address}
 use Rattle.assembled_run.specs.Machine.{HasCodeOf, IsAt, is_taken, moved_to, Leads, Within}
 
 -- proper units, assembled one by one, can be linked
 abbrev pub AssembledLink : Type 0
 AssembledLink = (us : List AsmUnit) (os : List ObjUnit) → AreAssembled us os → StayWithin us os → AreLinkable os
+
+-- and where each name that they ask for is that of one unit, `link` tells no fault
+abbrev pub ClosedLink : Type 0
+ClosedLink = (us : List AsmUnit) (os : List ObjUnit) → AreAssembled us os → AreClosed us → (name : List ℕ) → IsFaulty os name → ⊥
 
 -- the image of units is entered at the first line of `main`
 abbrev pub Begins : Type 0

@@ -8,7 +8,7 @@ use Rattle.rv_assemble.specs.declared.object.ObjUnit.{ObjUnit}
 use Rattle.rv_assemble.specs.declared.object.Relocation.{Relocation}
 use Rattle.linker.specs.Layout.{codes, images, zeros, code_size, laid, offset_of}
 use Rattle.linker.specs.Linked.{IsLinked, IsUntouched, AreLinkable}
-use Rattle.linker.proofs.Sites.{code_before, image_before, code_within, codes-fit, code_later, length-laid, Site}
+use Rattle.linker.proofs.Sites.{code_before, image_before, code_within, codes-fit, code_later, length-laid}
 use Rattle.linker.proofs.Done.{site_of}
 
 -- a number of bytes that stand so much further on
