@@ -10,3 +10,4 @@ pub mod Once
 pub mod Standing
 pub mod Laws
 pub mod Closed
+pub mod Trials

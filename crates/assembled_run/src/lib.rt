@@ -12,3 +12,6 @@ pub use lines::{
 pub use units::{
     assembled_units_link, closed_units_have_no_fault, fixes_hold, runs_begin, steps_keep_code,
 };
+
+#[cfg(test)]
+mod tests;
