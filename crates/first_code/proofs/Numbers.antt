@@ -2,11 +2,10 @@
 use Rattle.std.proofs.Common.{◌≡◌, ◌<◌, ◌≤◌, ℕ, ◌+◌, ◌-◌, ◌%◌, ◌^◌, Bool, true, false, cond, nat_lt, refl, ap, ◌∙◌, arith, w32}
 use Rattle.std.proofs.lemmas.Bool.{ltb-true, ltb-false, lt-ltb}
 use Rattle.rv_isa.specs.declared.insn.Insn.TheVariants.{Lui, Addiw}
-use Rattle.rv_isa.specs.Encode.{encode_of, IsSigned}
+use Rattle.rv_isa.specs.Encode.{IsEncodable, IsSigned}
 use Rattle.rv_machine.specs.Alu.{word_sum, extended}
 use Rattle.first_form.specs.Words.{IsInt}
 use Rattle.first_code.specs.Code.{nearest, upper, lower}
-use Rattle.first_code.proofs.Words.{HasWord}
 
 -- what LUI leaves is 32 bits with their sign
 upper_is : (n : ℕ) (b : Bool) → IsInt n → nat_lt (nearest n) (2 ^ 31) ≡ b → IsSigned 32 (cond b (nearest n) (nearest n + (2 ^ 64 - 2 ^ 32)))
@@ -32,16 +31,8 @@ extended_small n small = let is : nat_lt n (2 ^ 31) ≡ true = lt-ltb n (2 ^ 31)
 pub loads : (n : ℕ) → IsInt n → word_sum (upper n) (lower n) ≡ n
 loads n small = ap (extended w32) (sum_is n (nat_lt (nearest n) (2 ^ 31)) small refl) ∙ extended_small n (omega arith)
 
-pub lui_has_word : (n rd : ℕ) → IsInt n → rd < 32 → HasWord (Lui rd (upper n))
-unfolding encode_of
-lui_has_word n rd small low = record {
-  encodable = (low, upper_is n _ small refl, upper_whole n _);
-  fits = omega arith;
-}
+pub lui_encodable : (n rd : ℕ) → IsInt n → rd < 32 → IsEncodable (Lui rd (upper n))
+lui_encodable n rd small low = (low, upper_is n _ small refl, upper_whole n _)
 
-pub addiw_has_word : (n rd : ℕ) → IsInt n → rd < 32 → HasWord (Addiw rd rd (lower n))
-unfolding encode_of
-addiw_has_word n rd small low = record {
-  encodable = (low, low, lower_is n small);
-  fits = omega arith;
-}
+pub addiw_encodable : (n rd : ℕ) → IsInt n → rd < 32 → IsEncodable (Addiw rd rd (lower n))
+addiw_encodable n rd small low = (low, low, lower_is n small)

@@ -3,10 +3,12 @@ use Rattle.std.proofs.Common.{◌≡◌, ◌≤◌, ℕ, pos, zero, suc, ◌+◌
 use Rattle.std.proofs.lemmas.Bool.{cases_lt}
 use Rattle.behaviour.specs.Behaviour.{Seen, Running, Stopped}
 use Rattle.rv_machine.specs.declared.event.Event.TheVariants as event
+use Rattle.rv_machine.specs.declared.event.Mode.{Mode}
 use Rattle.rv_machine.specs.declared.event.Mode.TheVariants as mode
 use Rattle.rv_machine.specs.Exec.{Run, turn, exec}
 use Rattle.rv_machine.proofs.Laws.{exec_add, exec_ended}
-use Rattle.image_run.specs.Behaviour.{seen}
+use Rattle.image_run.specs.Behaviour.{seen, mode_ending}
+use Rattle.assembled_run.specs.Machine.{IsQuiet, Leads}
 use Rattle.first_meaning.specs.Units.{after_unit, seen_so, seen_from}
 
 -- output so far, and the program goes on, or has ended by itself with 0
@@ -50,14 +52,58 @@ more_covers k r r1 r' a b goes before c = record {
   last = c.last;
 }
 
--- from r on these units are done, each by at most k instructions, and then the end
-abbrev pub Does : ℕ → List ℕ → Run → List (Option ℕ) → Type 0
-Does k out r [] = (r' : Run) × Covers k r r' (seen_running out) (seen_stopped out) × (r'.state.mode ≡ mode.Ended (event.Exit (pos 0)))
-Does k out r (u ∷ us) = (r' : Run) × Covers k r r' (seen_running out) (seen_running (after_unit u out)) × Does k (after_unit u out) r' us
+-- some instructions on which a is seen, and then some more
+append_path : (m n : ℕ) (r w r' : Run) (a b : Seen) → Path m r w (λ s. (s ≡ a) ⊎ (s ≡ a)) → Path n w r' (λ s. (s ≡ a) ⊎ (s ≡ b)) → Path (m + n) r r' (λ s. (s ≡ a) ⊎ (s ≡ b))
+append_path zero n r w r' a b p q =
+    let e : n ≡ zero + n = omega arith in
+    let P : Run → Type 0 = λ v. Path n v r' (λ s. (s ≡ a) ⊎ (s ≡ b)) in
+    subst (λ k. Path k r r' (λ s. (s ≡ a) ⊎ (s ≡ b))) e (subst P (sym p.0) q)
+append_path (suc m) n r w r' a b p q =
+    let e : suc (m + n) ≡ suc m + n = omega arith in
+    subst (λ k. Path k r r' (λ s. (s ≡ a) ⊎ (s ≡ b))) e (elim p.0 [ inl h ↦ inl h | inr h ↦ inl h ], append_path m n (turn r) w r' a b p.1 q)
+
+pub then_covers : (k l : ℕ) (r w r' : Run) (a b : Seen) → Covers k r w a a → Covers l w r' a b → Covers (k + l) r r' a b
+then_covers k l r w r' a b c d = record {
+  count = c.count + d.count;
+  few = omega (arith, c.few, d.few);
+  path = append_path c.count d.count r w r' a b c.path d.path;
+  last = d.last;
+}
 
 exec_front : (r : Run) (m : ℕ) → exec r (suc m) ≡ exec (turn r) m
 exec_front r zero = refl
 exec_front r (suc m) = ap turn (exec_front r m)
+
+-- what is seen of a run that is quiet
+abbrev seen_of : List ℕ → ℕ → Mode → Seen
+seen_of output taken m = record { output = output; taken = taken; ending = mode_ending m }
+
+quiet_seen : (r w : Run) → r.state.mode ≡ mode.Ready → IsQuiet r w → seen w ≡ seen r
+quiet_seen r w ready q = same r.output w.output r.taken w.taken r.state.mode w.state.mode q.output q.taken (q.ready ∙ sym ready)
+  where
+    same : (o o' : List ℕ) (t t' : ℕ) (m m' : Mode) → o' ≡ o → t' ≡ t → m' ≡ m → seen_of o' t' m' ≡ seen_of o t m
+    same o o' t t' m m' p q s = λ i. record { output = p i; taken = q i; ending = mode_ending (s i) }
+
+quiet_path : (n : ℕ) (r r' : Run) (P : Seen → Type 0) → exec r n ≡ r' → ((j : ℕ) → j ≤ n → P (seen (exec r j))) → Path n r r' P
+quiet_path zero r r' P e h = (e, h 0 (omega arith))
+quiet_path (suc n) r r' P e h = (h 0 (omega arith), quiet_path n (turn r) r' P (sym (exec_front r n) ∙ e) (λ j le. subst (λ w. P (seen w)) (exec_front r j) (h (suc j) (omega arith))))
+
+-- instructions on which nothing is seen
+pub leads_covers : (n : ℕ) (r r' : Run) (a : Seen) → seen r ≡ a → Leads n r r' → Covers n r r' a a
+leads_covers n r r' a is l =
+    let ready : r.state.mode ≡ mode.Ready = (l.quiet 0 (omega arith)).ready in
+    let each : (j : ℕ) → j ≤ n → seen (exec r j) ≡ a = λ j le. quiet_seen r (exec r j) ready (l.quiet j le) ∙ is in
+    record {
+      count = n;
+      few = omega arith;
+      path = quiet_path n r r' (λ s. (s ≡ a) ⊎ (s ≡ a)) l.ends (λ j le. inl (each j le));
+      last = ap seen (sym l.ends) ∙ each n (omega arith);
+    }
+
+-- from r on these units are done, each by at most k instructions, and then the end
+abbrev pub Does : ℕ → List ℕ → Run → List (Option ℕ) → Type 0
+Does k out r [] = (r' : Run) × Covers k r r' (seen_running out) (seen_stopped out) × (r'.state.mode ≡ mode.Ended (event.Exit (pos 0)))
+Does k out r (u ∷ us) = (r' : Run) × Covers k r r' (seen_running out) (seen_running (after_unit u out)) × Does k (after_unit u out) r' us
 
 path_end : (m : ℕ) (r r' : Run) (P : Seen → Type 0) → Path m r r' P → exec r m ≡ r'
 path_end zero r r' P p = p.0

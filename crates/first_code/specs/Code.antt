@@ -1,15 +1,17 @@
--- The instructions of a program of the first form.
-use Rattle.std.specs.Prelude.{ℕ, ◌+◌, ◌-◌, ◌*◌, ◌/◌, ◌%◌, ◌^◌, nat_lt, if◌then◌else◌, List, [], ◌∷◌, ◌++◌}
+-- The lines of assembly of a program of the first form.
+use Rattle.std.specs.Prelude.{ℕ, ◌+◌, ◌-◌, ◌*◌, ◌/◌, ◌%◌, ◌^◌, nat_lt, bytes_eq, codes, if◌then◌else◌, List, [], ◌∷◌, ◌++◌}
 use Rattle.std.specs.List.{flat_map}
-use Rattle.byteorder.specs.Endian.{little_bytes}
 use Rattle.rv_isa.specs.declared.insn.Insn.{Insn}
 use Rattle.rv_isa.specs.declared.insn.Insn.TheVariants.{Lui, Addi, Addiw, Jalr, Ecall}
-use Rattle.rv_isa.specs.Encode.{encode_of}
+use Rattle.rv_assemble.specs.declared.unit.AsmLine.{AsmLine}
+use Rattle.rv_assemble.specs.declared.unit.AsmLine.TheVariants.{Plain, Call}
+use Rattle.rv_assemble.specs.declared.unit.AsmUnit.{AsmUnit}
+use Rattle.linker.specs.Names.{entry_name}
 use Rattle.first_form.specs.declared.program.FirstProgram.{FirstProgram}
 use Rattle.first_form.specs.declared.program.PutcharArgument.{PutcharArgument}
 use Rattle.first_form.specs.declared.program.PutcharArgument.TheVariants.{Parameter, Number}
 
--- the registers by their names in the psABI: zero, ra, t0, s1, a0, a7
+-- the registers by their names in the psABI: zero, ra, t0, a0, a7
 abbrev pub x0 : ℕ
 x0 = 0
 
@@ -18,9 +20,6 @@ ra = 1
 
 abbrev pub t0 : ℕ
 t0 = 5
-
-abbrev pub s1 : ℕ
-s1 = 9
 
 abbrev pub a0 : ℕ
 a0 = 10
@@ -41,29 +40,34 @@ abbrev pub lower : ℕ → ℕ
 lower n = (n + (2 ^ 64 - nearest n)) % 2 ^ 64
 
 -- an int that isn't negative into a register
-abbrev pub load_number : ℕ → ℕ → List Insn
-load_number rd n = Lui rd (upper n) ∷ Addiw rd rd (lower n) ∷ []
+abbrev pub load_number : ℕ → ℕ → List AsmLine
+load_number rd n = Plain (Lui rd (upper n)) ∷ Plain (Addiw rd rd (lower n)) ∷ []
 
 -- a putchar: its argument into a0, and the call of the environment that gives a byte
-abbrev pub put_code : PutcharArgument → List Insn
-put_code Parameter = Addi a0 t0 0 ∷ Ecall ∷ []
-put_code (Number n) = load_number a0 n ++ Ecall ∷ []
+abbrev pub put_lines : PutcharArgument → List AsmLine
+put_lines Parameter = Plain (Addi a0 t0 0) ∷ Plain Ecall ∷ []
+put_lines (Number n) = load_number a0 n ++ Plain Ecall ∷ []
 
 -- the function: its parameter comes in a0 and is kept in t0, a7 names the call, and ra is where it returns to
-abbrev pub function_code : List PutcharArgument → List Insn
-function_code puts = Addi t0 a0 0 ∷ Addi a7 x0 64 ∷ (flat_map put_code puts ++ Jalr x0 ra 0 ∷ [])
+abbrev pub function_lines : List PutcharArgument → List AsmLine
+function_lines puts = Plain (Addi t0 a0 0) ∷ Plain (Addi a7 x0 64) ∷ (flat_map put_lines puts ++ Plain (Jalr x0 ra 0) ∷ [])
 
--- a call: the argument in a0, and the function's address in s1
-abbrev pub call_code : ℕ → List Insn
-call_code n = load_number a0 n ++ Jalr ra s1 0 ∷ []
+-- a call: the argument in a0, and the function by its name
+abbrev pub call_lines : List ℕ → ℕ → List AsmLine
+call_lines name n = load_number a0 n ++ Call name ∷ []
 
--- the main program: the function stands at the start of the image, and the end has the stop code 0
-abbrev pub main_code : List ℕ → List Insn
-main_code calls = Lui s1 65536 ∷ (flat_map call_code calls ++ Addi a0 x0 0 ∷ Addi a7 x0 93 ∷ Ecall ∷ [])
+-- the main program: its calls, and the end with the stop code 0
+abbrev pub main_lines : List ℕ → List ℕ → List AsmLine
+main_lines name calls = flat_map (call_lines name) calls ++ Plain (Addi a0 x0 0) ∷ Plain (Addi a7 x0 93) ∷ Plain Ecall ∷ []
 
-abbrev pub code_of : FirstProgram → List Insn
-code_of p = function_code p.puts ++ main_code p.calls
+-- the name of the function's unit: its label, and another name where that is the main program's
+abbrev pub function_name : List ℕ → List ℕ
+function_name label = if bytes_eq label entry_name then codes "main.c" else label
 
--- the bytes of instructions: their words, the lowest byte first
-abbrev pub bytes_of : List Insn → List ℕ
-bytes_of insns = flat_map (λ i. little_bytes 4 (encode_of i)) insns
+-- a unit without an image
+abbrev pub unit_of : List ℕ → List AsmLine → AsmUnit
+unit_of name lines = record { name = name; lines = lines; image = []; fixes = [] }
+
+-- the units of a program
+abbrev pub assembly_of : FirstProgram → List AsmUnit
+assembly_of p = unit_of (function_name p.label) (function_lines p.puts) ∷ unit_of entry_name (main_lines (function_name p.label) p.calls) ∷ []

@@ -1,7 +1,7 @@
 //! The code of a program of the first form.
 #![tactic(auto)]
 
-mod emit;
 mod image;
+mod lines;
 
 pub use image::compile;

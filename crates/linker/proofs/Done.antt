@@ -13,7 +13,7 @@ use Rattle.linker.specs.Linked.{HasTarget, IsResolved, AreLinkable}
 use Rattle.linker.specs.Resolving.{IsPatched, IsDone, IsBefore}
 use Rattle.linker.proofs.Sites.{Site, site, Apart, apart_later, apart_same}
 
-number_same : (at n : ℕ) (a b : List ℕ) → ((i : ℕ) → at ≤ i → i < at + n → slice_index a i ≡ slice_index b i) → number_low_first at n a ≡ number_low_first at n b
+pub number_same : (at n : ℕ) (a b : List ℕ) → ((i : ℕ) → at ≤ i → i < at + n → slice_index a i ≡ slice_index b i) → number_low_first at n a ≡ number_low_first at n b
 number_same at zero a b h = refl
 number_same at (suc n) a b h =
     ap (λ (x : ℕ). x + 256 * number_low_first (suc at) n a) (h at (omega arith) (omega arith))
@@ -57,7 +57,7 @@ same_unit a b e = cc
 same_relocation : (a b : Relocation) → Some a ≡ Some b → a ≡ b
 same_relocation a b e = cc
 
-site_of : (units : List ObjUnit) → AreLinkable units → (k j : ℕ) (u : ObjUnit) (r : Relocation) → slice_get units k ≡ Some u → slice_get u.relocations j ≡ Some r → Site units k u r.at
+pub site_of : (units : List ObjUnit) → AreLinkable units → (k j : ℕ) (u : ObjUnit) (r : Relocation) → slice_get units k ≡ Some u → slice_get u.relocations j ≡ Some r → Site units k u r.at
 site_of units l k j u r g h = site units k u r.at r.kind ((l k u g).inside j r h)
 
 -- a relocation is apart from those before it

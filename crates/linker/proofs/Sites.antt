@@ -43,7 +43,7 @@ pub image_next : (units : List ObjUnit) (k : ℕ) (u : ObjUnit) → slice_get un
 image_next units k u g = ap (λ (b : List ℕ). length b) (images-more k units u g) ∙ length-append (images (take k units)) u.image
 
 -- a unit's bytes end before those of a later unit, and among all
-code_grows : (units : List ObjUnit) (k i : ℕ) → k ≤ i → code_before units k ≤ code_before units i
+pub code_grows : (units : List ObjUnit) (k i : ℕ) → k ≤ i → code_before units k ≤ code_before units i
 code_grows [] zero i le = omega arith
 code_grows [] (suc k) zero le = absurd (omega arith)
 code_grows [] (suc k) (suc i) le = omega arith
@@ -55,7 +55,7 @@ code_grows (u ∷ units) (suc k) (suc i) le =
     let b = length-append u.code (codes (take i units)) in
     omega (arith, r, a, b)
 
-image_grows : (units : List ObjUnit) (k i : ℕ) → k ≤ i → image_before units k ≤ image_before units i
+pub image_grows : (units : List ObjUnit) (k i : ℕ) → k ≤ i → image_before units k ≤ image_before units i
 image_grows [] zero i le = omega arith
 image_grows [] (suc k) zero le = absurd (omega arith)
 image_grows [] (suc k) (suc i) le = omega arith
@@ -67,7 +67,7 @@ image_grows (u ∷ units) (suc k) (suc i) le =
     let b = length-append u.image (images (take i units)) in
     omega (arith, r, a, b)
 
-code_whole : (units : List ObjUnit) (k : ℕ) → code_before units k ≤ length (codes units)
+pub code_whole : (units : List ObjUnit) (k : ℕ) → code_before units k ≤ length (codes units)
 code_whole [] zero = omega arith
 code_whole [] (suc k) = omega arith
 code_whole (u ∷ units) zero = omega arith
@@ -77,7 +77,7 @@ code_whole (u ∷ units) (suc k) =
     let b = length-append u.code (codes units) in
     omega (arith, r, a, b)
 
-image_whole : (units : List ObjUnit) (k : ℕ) → image_before units k ≤ length (images units)
+pub image_whole : (units : List ObjUnit) (k : ℕ) → image_before units k ≤ length (images units)
 image_whole [] zero = omega arith
 image_whole [] (suc k) = omega arith
 image_whole (u ∷ units) zero = omega arith
@@ -93,10 +93,10 @@ code_within units k u g = let n = code_next units k u g in let w = code_whole un
 pub image_within : (units : List ObjUnit) (k : ℕ) (u : ObjUnit) → slice_get units k ≡ Some u → image_before units k + length u.image ≤ length (images units)
 image_within units k u g = let n = image_next units k u g in let w = image_whole units (k + 1) in omega (arith, n, w)
 
-code_later : (units : List ObjUnit) (k i : ℕ) (u : ObjUnit) → slice_get units k ≡ Some u → k < i → code_before units k + length u.code ≤ code_before units i
+pub code_later : (units : List ObjUnit) (k i : ℕ) (u : ObjUnit) → slice_get units k ≡ Some u → k < i → code_before units k + length u.code ≤ code_before units i
 code_later units k i u g lt = let n = code_next units k u g in let w = code_grows units (k + 1) i (omega arith) in omega (arith, n, w)
 
-image_later : (units : List ObjUnit) (k i : ℕ) (u : ObjUnit) → slice_get units k ≡ Some u → k < i → image_before units k + length u.image ≤ image_before units i
+pub image_later : (units : List ObjUnit) (k i : ℕ) (u : ObjUnit) → slice_get units k ≡ Some u → k < i → image_before units k + length u.image ≤ image_before units i
 image_later units k i u g lt = let n = image_next units k u g in let w = image_grows units (k + 1) i (omega arith) in omega (arith, n, w)
 
 -- the offset of a place by its part

@@ -1,4 +1,4 @@
-ghost use Rattle.std.specs.Prelude.{ℕ, List, IfOk, IfErr};
+ghost use Rattle.std.specs.Prelude.{ℕ, ◌<◌, List, length, IfOk, IfErr};
 ghost use Rattle.linker.specs.Linked.{IsLinked, IsFaulty, AreLinkable};
 ghost use Rattle.linker.specs.Told.{IsFault};
 
@@ -21,6 +21,7 @@ use std::alloc::Global;
 pub fn link(alloc: Global, units: &[ObjUnit]) -> Result<Image, LinkFault>
     requires { AreLinkable units.now }
     ensures linked { IfOk result (λ image. IsLinked units.now image) }
+    ensures small { IfOk result (λ image. length image.bytes < 2000000000) }
     ensures sound { IfOk result (λ image. (name : List ℕ) → IsFaulty units.now name → ⊥) }
     ensures fault { IfErr result (λ fault. IsFault units.now fault) }
 {

@@ -1,5 +1,5 @@
 -- What a unit of assembly means: each line stands at its place, and each branch reaches its label's place, whichever form it took.
-use Rattle.std.specs.Prelude.{ℕ, ◌≡◌, ◌<◌, ◌≤◌, ◌+◌, ◌-◌, ◌%◌, ◌^◌, ◌⊎◌, List, [], ◌∷◌, ◌++◌, length, slice_index, slice_get, Some}
+use Rattle.std.specs.Prelude.{ℕ, ◌≡◌, ◌≢◌, ◌<◌, ◌≤◌, ◌+◌, ◌-◌, ◌%◌, ◌^◌, ◌⊎◌, List, [], ◌∷◌, ◌++◌, length, slice_index, slice_get, Some}
 use Rattle.jf_base.specs.Numbers.{number_low_first}
 use Rattle.rv_isa.specs.declared.insn.Insn.{Insn}
 use Rattle.rv_isa.specs.declared.insn.Insn.TheVariants.{Auipc, Jal, Jalr, Beq, Bne, Blt, Bge, Bltu, Bgeu, Addi}
@@ -133,7 +133,9 @@ IsProperLine lines (Address rd name offset) = rd < 32
 abbrev pub AreProperLines : List AsmLine → Type 0
 AreProperLines lines = (k : ℕ) (line : AsmLine) → slice_get lines k ≡ Some line → IsProperLine lines line
 
--- a unit that can be assembled
+-- a unit that can be assembled: its lines are proper, and its fixes lie in its image and apart from each other
 pub record IsProperUnit (u : AsmUnit) : Type 0 where
   pub lines : AreProperLines u.lines
   pub fixes : (k : ℕ) (fix : NamedFix) → slice_get u.fixes k ≡ Some fix → fix.at + 8 ≤ length u.image
+  pub apart : (i j : ℕ) (fix other : NamedFix) → slice_get u.fixes i ≡ Some fix → slice_get u.fixes j ≡ Some other → i ≢ j
+      → (fix.at + 8 ≤ other.at) ⊎ (other.at + 8 ≤ fix.at)

@@ -128,7 +128,7 @@ fn object_of(alloc: Global, u: &AsmUnit) -> Result<ObjUnit, AllocError>
     })
 }
 
-/// The object of a unit of assembly, whose labels that are named stand on lines and whose fixes lie in its image.
+/// The object of a unit of assembly, whose labels that are named stand on lines and whose fixes lie in its image and apart.
 /// A conditional branch further than 4 KiB goes over a jump, and a jump further than 1 MiB over x6.
 /// Memory is wanting too where the unit has 2,000,000,000 bytes or more.
 pub fn assemble(alloc: Global, u: &AsmUnit) -> Result<ObjUnit, Memory>

@@ -81,3 +81,14 @@ returns-clause-sound c =
     let tells = listed c.as_slice.result.now missing c.as_slice-2.result.now twice c.in_ok-fault.field-0 c.as_slice.ensures.value c.as_slice-2.ensures.value c.in_ok-fault.ensures in
     let none = subst (λ (o : Option LinkFault). Tells missing twice o) c.in_default.is tells in
     none-told c.args.units.now c.in_ok-table.table twice missing c.in_ok-table.ensures c.in_ok-missing.ensures none
+
+pub returns-clause-small : goal.returns-clause-small
+returns-clause-small c =
+    let new = c.resolve_all.new.bytes in
+    let len = c.in_ok-bytes.bytes.ok.0 ∙ ap (λ (b : List ℕ). length b) c.in_ok-bytes.ensures.bytes ∙ sym c.resolve_all.ensures.len in
+    let items = c.from_vec.ensures ∙ whole new c.in_ok-bytes.bytes.items c.in_ok-bytes.bytes.len len in
+    let all = ap (λ (b : List ℕ). length b) c.in_ok-bytes.ensures.bytes in
+    let same = c.resolve_all.ensures.len in
+    let small = c.in_ok-bytes.ensures.small in
+    let new_small : length new < 2000000000 = omega (arith, all, same, small) in
+    subst (λ (b : List ℕ). length b < 2000000000) (sym items) new_small

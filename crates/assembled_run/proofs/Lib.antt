@@ -1,0 +1,13 @@
+pub mod Follows
+pub mod Asked
+pub mod Linkable
+pub mod Bytes
+pub mod Held
+pub mod Leads
+pub mod Jumps
+pub mod Moved
+pub mod Once
+pub mod Standing
+pub mod Laws
+pub mod Closed
+pub mod Trials
