@@ -7,7 +7,7 @@ use Rattle.work.specs.Units.{with_value}
 use Rattle.flat_ir.specs.Bytes.{Bytes, Areas, number, put, fits, loaded, stored}
 use Rattle.flat_ir.specs.Placement.{Places}
 use Rattle.flat_ir.specs.Tree.{Stmt, Procedure}
-use Rattle.flat_ir.specs.Flat.{World, seen, with_frames, Next, Back, on, at_zero, meaning, frame_of, charged, returning, nowhere, called, calls_of}
+use Rattle.flat_ir.specs.Flat.{World, seen, with_frames, Next, Back, on, at_zero, turns, meaning, frame_of, charged, returning, nowhere, called, calls_of}
 use Rattle.flat_ir.specs.Comes.{delayed, Comes, Exactly}
 use Rattle.flat_ir.proofs.Comes.{loads, stores, delayed_on}
 
@@ -66,6 +66,11 @@ module _ {s : Seen} {t : Behaviour} where
 
   pub if_less : {k : ℕ} (i j : ℕ) (x y : Behaviour) → (i < j → Exactly s k t y) → (j ≤ i → Exactly s k t x) → Exactly s k t (at_zero (cond (nat_lt i j) 1 0) x y)
   if_less {k} i j x y when else' = when_true (nat_lt i j) x y (λ e. when (grind (arith, nat_tests))) (λ e. else' (grind (arith, nat_tests)))
+
+  -- a loop that has gone back, over states, each with a bound on its turns and the units that follow it
+  pub loops : {X : Type 0} (env : X → List ℕ) (world : X → World) (left units : X → ℕ) (body : Next → Next) → ((x : X) → seen (world x) Running ≡ s) → ((x : X) (again : Next) → ((y : X) → left y < left x → Exactly s (suc (units y)) t (again (env y) (world y))) → Exactly s (units x) t (body again (env x) (world x))) → (d : ℕ) (x : X) → left x < d → Exactly s (suc (units x)) t (turns d body (env x) (world x))
+  loops {X} env world left units body quiet step zero x h = absurd (omega arith)
+  loops {X} env world left units body quiet step (suc d) x h = ticks (world x) _ (quiet x) (step x (turns d body) (λ y less. loops env world left units body quiet step d y (omega arith)))
 
   -- the same values and the same world, written otherwise
   pub moved : {k : ℕ} (again : Next) (env env' : List ℕ) (w w' : World) → env ≡ env' → w ≡ w' → Exactly s k t (again env' w') → Exactly s k t (again env w)
