@@ -1,15 +1,15 @@
 -- The units of the tests can be assembled and linked.
-use Rattle.std.proofs.Common.{◌≡◌, ◌≤◌, ℕ, zero, suc, ◌+◌, List, [], ◌∷◌, ◌++◌, length, replicate, refl, sym, ap, ◌∙◌, subst, arith, lit<, inl, inr, ◌⊎◌}
+use Rattle.std.proofs.Common.{◌≡◌, ℕ, zero, suc, List, [], ◌∷◌, ◌++◌, length, replicate, refl, sym, ap, ◌∙◌, subst, arith, lit<, inl, inr, ◌⊎◌}
 use Rattle.std.specs.Prelude.{slice_get, Some, codes}
-use Rattle.rv_isa.specs.declared.insn.Insn.TheVariants.{Addi, Beq, Jalr, Ecall}
+use Rattle.rv_isa.specs.declared.insn.Insn.TheVariants.{Addi}
 use Rattle.rv_assemble.specs.declared.unit.AsmLine.{AsmLine}
 use Rattle.rv_assemble.specs.declared.unit.AsmLine.TheVariants.{Label, Plain, Branch, Call, Address}
 use Rattle.rv_assemble.specs.declared.unit.AsmUnit.{AsmUnit}
 use Rattle.rv_assemble.specs.declared.object.ObjUnit.{ObjUnit}
-use Rattle.rv_assemble.specs.Lines.{IsProperLine, AreProperLines, IsProperUnit, HasLabel}
+use Rattle.rv_assemble.specs.Lines.{IsProperLine, IsProperUnit, HasLabel}
 use Rattle.linker.specs.Names.{entry_name}
-use Rattle.assembled_run.specs.Program.{AreProper, AreAssembled, AreClosed, StayWithin, AsksFor, Names, IsNameOf}
-use Rattle.assembled_run.specs.Trial.{end_lines, branch_lines, over_lines, leaf_lines, calling_lines, bare_unit, over_units, calling_units}
+use Rattle.assembled_run.specs.Program.{AreProper, AreAssembled, AreClosed, StayWithin, AsksFor, Names}
+use Rattle.assembled_run.specs.Trial.{end_lines, branch_lines, sums, over_lines, leaf_lines, calling_lines, bare_unit, over_units, calling_units}
 
 -- lines that stand in a unit, whose calls are of `f`, and which ask for no address
 abbrev IsTame : List AsmLine → AsmLine → Type 0
@@ -65,12 +65,12 @@ in_back (x ∷ a) b k line g = let f = in_back a b k line g in (suc f.0, f.1)
 
 over_tame : (n : ℕ) → AreTame (over_lines n) (over_lines n)
 over_tame n =
-    let label : HasLabel (over_lines n) 1 = in_back (branch_lines ++ replicate n (Plain (Addi 10 10 1))) (Label 1 ∷ end_lines) 0 (Label 1) refl in
-    tame_append (over_lines n) (branch_lines ++ replicate n (Plain (Addi 10 10 1))) (Label 1 ∷ end_lines)
-        (tame_append (over_lines n) branch_lines (replicate n (Plain (Addi 10 10 1)))
-        ((lit< tt, lit< tt, (lit< tt, lit< tt)), (((lit< tt, lit< tt), label), tt))
-        (tame_many (over_lines n) (Plain (Addi 10 10 1)) n (lit< tt, lit< tt, (lit< tt, lit< tt))))
-        (tt, ((lit< tt, lit< tt, (lit< tt, lit< tt)), (tt, tt)))
+    let label : HasLabel (over_lines n) 1 = in_back (branch_lines ++ sums n) (Label 1 ∷ end_lines) 0 (Label 1) refl in
+    tame_append (over_lines n) (branch_lines ++ sums n) (Label 1 ∷ end_lines)
+    (tame_append (over_lines n) branch_lines (sums n)
+    ((lit< tt, lit< tt, (lit< tt, lit< tt)), (((lit< tt, lit< tt), label), tt))
+    (tame_many (over_lines n) (Plain (Addi 10 10 1)) n (lit< tt, lit< tt, (lit< tt, lit< tt))))
+    (tt, ((lit< tt, lit< tt, (lit< tt, lit< tt)), (tt, tt)))
 
 leaf_tame : AreTame leaf_lines leaf_lines
 leaf_tame = ((lit< tt, lit< tt, (lit< tt, lit< tt)), ((lit< tt, lit< tt, (lit< tt, lit< tt)), tt))
@@ -103,3 +103,67 @@ calling_within os made zero j u v o offset g h k asked =
 calling_within os made (suc zero) j u v o offset g h k asked =
     absurd (no_address (codes "f") leaf_lines leaf_tame v.name offset (subst (λ (w : AsmUnit). AsksFor w v.name offset) (sym (same_unit (bare_unit (codes "f") leaf_lines) u g)) asked))
 calling_within os made (suc (suc i)) j u v o offset g h k asked = cc
+
+over_number : (n i : ℕ) (u : AsmUnit) → slice_get (over_units n) i ≡ Some u → i ≡ 0
+over_number n zero u g = refl
+over_number n (suc i) u g = cc
+
+over_calls : (n k : ℕ) (name : List ℕ) → slice_get (over_lines n) k ≡ Some (Call name) → ⊥
+over_calls n zero name g = cc
+over_calls n (suc zero) name g = cc
+over_calls n (suc (suc k)) name g = behind n k g
+  where
+    last : (m : ℕ) → slice_get (Label 1 ∷ end_lines) m ≡ Some (Call name) → ⊥
+    last zero h = cc
+    last (suc zero) h = cc
+    last (suc (suc zero)) h = cc
+    last (suc (suc (suc m))) h = cc
+
+    behind : (a m : ℕ) → slice_get (sums a ++ Label 1 ∷ end_lines) m ≡ Some (Call name) → ⊥
+    behind zero m h = last m h
+    behind (suc a) zero h = cc
+    behind (suc a) (suc m) h = behind a m h
+
+pub over_closed : (n : ℕ) → AreClosed (over_units n)
+over_closed n = record {
+  own = λ i j u v g h e. over_number n i u g ∙ sym (over_number n j v h);
+  named = λ i u name g asked. absurd (none i u name g asked);
+  main = (zero, (bare_unit entry_name (over_lines n), refl, refl));
+}
+  where
+    here : (name : List ℕ) → Names (bare_unit entry_name (over_lines n)) name → ⊥
+    here name (inl c) = over_calls n c.0 name c.1
+    here name (inr a) = no_address entry_name (over_lines n) (over_tame n) name a.0 a.1
+
+    none : (i : ℕ) (u : AsmUnit) (name : List ℕ) → slice_get (over_units n) i ≡ Some u → Names u name → ⊥
+    none zero u name g asked = here name (subst (λ (w : AsmUnit). Names w name) (sym (same_unit (bare_unit entry_name (over_lines n)) u g)) asked)
+    none (suc i) u name g asked = cc
+
+abbrev IsNumbered : ℕ → AsmUnit → Type 0
+IsNumbered i u = ((i ≡ 0) × (entry_name ≡ u.name)) ⊎ ((i ≡ 1) × (codes "f" ≡ u.name))
+
+calling_number : (i : ℕ) (u : AsmUnit) → slice_get calling_units i ≡ Some u → IsNumbered i u
+calling_number zero u g = inl (refl, ap (λ (w : AsmUnit). w.name) (same_unit (bare_unit entry_name calling_lines) u g))
+calling_number (suc zero) u g = inr (refl, ap (λ (w : AsmUnit). w.name) (same_unit (bare_unit (codes "f") leaf_lines) u g))
+calling_number (suc (suc i)) u g = cc
+
+pub calling_closed : AreClosed calling_units
+calling_closed = record {
+  own = λ i j u v g h e. by i j u v (calling_number i u g) (calling_number j v h) e;
+  named = λ i u name g asked. (suc zero, (bare_unit (codes "f") leaf_lines, refl, sym (called i u name g asked)));
+  main = (zero, (bare_unit entry_name calling_lines, refl, refl));
+}
+  where
+    other : entry_name ≡ codes "f" → ⊥
+    other e = let n : 4 ≡ 1 = ap (λ (b : List ℕ). length b) e in omega (arith, n)
+
+    by : (i j : ℕ) (u v : AsmUnit) → IsNumbered i u → IsNumbered j v → u.name ≡ v.name → i ≡ j
+    by i j u v (inl a) (inl b) e = a.0 ∙ sym b.0
+    by i j u v (inr a) (inr b) e = a.0 ∙ sym b.0
+    by i j u v (inl a) (inr b) e = absurd (other (a.1 ∙ e ∙ sym b.1))
+    by i j u v (inr a) (inl b) e = absurd (other (b.1 ∙ sym e ∙ sym a.1))
+
+    called : (i : ℕ) (u : AsmUnit) (name : List ℕ) → slice_get calling_units i ≡ Some u → Names u name → name ≡ codes "f"
+    called zero u name g asked = calls_f entry_name calling_lines calling_tame name (subst (λ (w : AsmUnit). Names w name) (sym (same_unit (bare_unit entry_name calling_lines) u g)) asked)
+    called (suc zero) u name g asked = calls_f (codes "f") leaf_lines leaf_tame name (subst (λ (w : AsmUnit). Names w name) (sym (same_unit (bare_unit (codes "f") leaf_lines) u g)) asked)
+    called (suc (suc i)) u name g asked = cc

@@ -14,8 +14,11 @@ end_lines = Plain (Addi 17 0 93) ∷ Plain Ecall ∷ []
 abbrev pub branch_lines : List AsmLine
 branch_lines = Plain (Addi 10 0 7) ∷ Branch (Beq 0 0 0) 1 ∷ []
 
+abbrev pub sums : ℕ → List AsmLine
+sums n = replicate n (Plain (Addi 10 10 1))
+
 abbrev pub over_lines : ℕ → List AsmLine
-over_lines n = (branch_lines ++ replicate n (Plain (Addi 10 10 1))) ++ Label 1 ∷ end_lines
+over_lines n = (branch_lines ++ sums n) ++ Label 1 ∷ end_lines
 
 -- 5 into a0
 abbrev pub leaf_lines : List AsmLine

@@ -1,8 +1,6 @@
 //! Units that the machine runs.
 ghost use Rattle.std.specs.Prelude.{◌≡◌, ◌++◌, [], ◌∷◌, IfOk, OnOk};
-ghost use Rattle.rv_assemble.specs.declared.unit.AsmLine.TheVariants.{Plain};
-ghost use Rattle.linker.specs.Names.{entry_name};
-ghost use Rattle.assembled_run.specs.Trial.{end_lines, branch_lines, over_lines, leaf_lines, calling_lines, bare_unit, over_units, calling_units};
+ghost use Rattle.assembled_run.specs.Trial.{end_lines, sums, over_lines, leaf_lines, calling_lines, bare_unit, over_units, calling_units};
 
 use crate::image_of;
 use jf_base::{Limits, List, Memory, Text};
@@ -27,6 +25,20 @@ fn add_end(lines: &mut Vec<AsmLine>) -> Result<(), AllocError>
     Ok(())
 }
 
+/// So many instructions that add 1 to a0.
+fn add_sums(lines: &mut Vec<AsmLine>, count: u32) -> Result<(), AllocError>
+    ensures { OnOk result (lines.new.items ≡ lines.old.items ++ sums count) }
+{
+    for _ in 0..count {
+        lines.push(AsmLine::Plain(Insn::Addi {
+            rd: A0,
+            rs1: A0,
+            imm: 1,
+        }))?;
+    }
+    Ok(())
+}
+
 /// 7 into a0, and a branch over so many instructions that add 1 to it.
 fn lines_over(alloc: Global, count: u32) -> Result<Vec<AsmLine>, AllocError>
     ensures { IfOk result (λ lines. lines.items ≡ over_lines count) }
@@ -43,13 +55,7 @@ fn lines_over(alloc: Global, count: u32) -> Result<Vec<AsmLine>, AllocError>
         imm: 0,
     };
     lines.push(AsmLine::Branch { insn, to: 1 })?;
-    for _ in 0..count {
-        lines.push(AsmLine::Plain(Insn::Addi {
-            rd: A0,
-            rs1: A0,
-            imm: 1,
-        }))?;
-    }
+    add_sums(&mut lines, count)?;
     lines.push(AsmLine::Label(1))?;
     add_end(&mut lines)?;
     Ok(lines)

@@ -1,5 +1,5 @@
 -- The image of a program follows it.
-use Rattle.std.proofs.Common.{◌≡◌, ◌<◌, ◌≤◌, ℕ, zero, suc, ◌+◌, ◌-◌, ◌*◌, ◌%◌, ◌^◌, min, List, [], ◌∷◌, ◌++◌, All, ◌⊎◌, length, drop, replicate, refl, sym, ap, ◌∙◌, subst, arith, lit<, inl, inr, length-append}
+use Rattle.std.proofs.Common.{◌≡◌, ◌<◌, ◌≤◌, ℕ, zero, suc, ◌+◌, ◌*◌, ◌^◌, List, [], ◌∷◌, ◌++◌, All, ◌⊎◌, length, refl, sym, ap, ◌∙◌, subst, arith, lit<, inl, inr, length-append}
 use Rattle.std.specs.Prelude.{slice_get, Some, Bool, true, false, bytes_eq, codes, if◌then◌else◌}
 use Rattle.std.specs.List.{flat_map}
 use Rattle.std.proofs.lemmas.Slice.Eq.{bytes_eq-Decides}
@@ -9,7 +9,7 @@ use Rattle.jf_base.specs.declared.place.Limits.{Limits}
 use Rattle.program_image.specs.declared.Image.{Image}
 use Rattle.rv_isa.specs.declared.insn.Insn.TheVariants.{Addi, Jalr, Ecall}
 use Rattle.rv_assemble.specs.declared.unit.AsmLine.{AsmLine}
-use Rattle.rv_assemble.specs.declared.unit.AsmLine.TheVariants.{Plain, Call}
+use Rattle.rv_assemble.specs.declared.unit.AsmLine.TheVariants.{Plain}
 use Rattle.rv_assemble.specs.declared.unit.AsmUnit.{AsmUnit}
 use Rattle.rv_assemble.specs.declared.object.ObjUnit.{ObjUnit}
 use Rattle.rv_assemble.specs.Lines.{IsProperUnit}
@@ -20,7 +20,6 @@ use Rattle.rv_machine.specs.Loaded.{loaded, objects_at, heap_at, frames_at}
 use Rattle.rv_machine.specs.Exec.{start}
 use Rattle.image_run.specs.Behaviour.{image_behaviour}
 use Rattle.assembled_run.specs.Program.{AreProper, AreAssembled, AreLinked, AreClosed, StayWithin, IsImageOf, UnitAt, IsNameOf, Names, AsksFor, line_address}
-use Rattle.assembled_run.specs.Machine.{HasCodeOf, IsAt}
 use Rattle.assembled_run.proofs.Follows.{EachFrom, each_from}
 use Rattle.assembled_run.proofs.Linkable.{unit_at}
 use Rattle.assembled_run.proofs.Laws.{begins as begins_at, are_in_code}
@@ -33,7 +32,7 @@ use Rattle.first_meaning.specs.Joint.{joint}
 use Rattle.first_meaning.specs.Units.{seen_of_units, units_of}
 use Rattle.first_meaning.proofs.Course.{units_seen}
 use Rattle.first_meaning.proofs.Facts.{fits}
-use Rattle.first_code.specs.Code.{x0, ra, t0, a0, a7, put_lines, function_lines, call_lines, main_lines, function_name, unit_of, assembly_of}
+use Rattle.first_code.specs.Code.{x0, ra, a0, a7, put_lines, function_lines, call_lines, main_lines, function_name, unit_of, assembly_of}
 use Rattle.first_code.specs.Compiled.{AreStandard, pace, IsCompiled}
 use Rattle.first_code.proofs.Units.{Does, forth, back}
 use Rattle.first_code.proofs.Words.{AreStraight, straight_append, straight_proper, straight_asks, straight_names, size, size_append, HasLines, ends, lines_here}
@@ -78,7 +77,7 @@ function_straight name puts h = (
 main_straight : (name : List ℕ) (calls : List ℕ) → All IsInt calls → AreStraight name (main_lines name calls)
 main_straight name calls h =
     straight_append name (flat_map (call_lines name) calls) (Plain (Addi a0 x0 0) ∷ Plain (Addi a7 x0 93) ∷ Plain Ecall ∷ []) (calls_straight name calls h)
-        ((lit< tt, lit< tt, (lit< tt, lit< tt)), ((lit< tt, lit< tt, (lit< tt, lit< tt)), (tt, tt)))
+    ((lit< tt, lit< tt, (lit< tt, lit< tt)), ((lit< tt, lit< tt, (lit< tt, lit< tt)), (tt, tt)))
 
 -- how long the code is
 puts_size : (puts : List PutcharArgument) → size (flat_map put_lines puts) ≤ 12 * length puts
@@ -146,8 +145,8 @@ module _ (p : FirstProgram) (fit_calls : All IsInt p.calls) (fit_puts : All IsAr
   pub within : (os : List ObjUnit) → AreAssembled (assembly_of p) os → StayWithin (assembly_of p) os
   within os made i j u v o offset g h k asked =
       absurd (of_each (λ w. (n : List ℕ) (m : ℕ) → AsksFor w n m → ⊥) (unit_of name (function_lines p.puts)) (unit_of entry_name (main_lines name p.calls))
-          (straight_asks name name (function_lines p.puts) (function_straight name p.puts fit_puts))
-          (straight_asks entry_name name (main_lines name p.calls) (main_straight name p.calls fit_calls)) i u g v.name offset asked)
+      (straight_asks name name (function_lines p.puts) (function_straight name p.puts fit_puts))
+      (straight_asks entry_name name (main_lines name p.calls) (main_straight name p.calls fit_calls)) i u g v.name offset asked)
 
 -- the bytes of two objects without images
 two_laid : (os : List ObjUnit) (a b : ObjUnit) → length os ≡ 2 → slice_get os 0 ≡ Some a → slice_get os 1 ≡ Some b → a.image ≡ [] → b.image ≡ [] → length (laid os) ≤ length a.code + length b.code + 15
@@ -247,9 +246,9 @@ module _ (image : Image) (p : FirstProgram) (fit_calls : All IsInt p.calls) (fit
       let P : ℕ → Type 0 = λ pc. Does 4 [] (record { state = record s { pc = pc }; left = input; taken = 0; output = [] }) (units_of p) in
       subst P (sym here.place)
       (program_does image s.memory s.code input (objects_at image limits) limits.objects (heap_at image limits) limits.heap (frames_at image) low
-          (record { len = here.has.len; long = here.has.long; bytes = here.has.bytes }) p.puts fit_puts
-          (subst (λ (t : ℕ). HasLines image s.memory s.code t 65536 (function_lines p.puts)) at_start in_function) own_name p.calls fit_calls (objects_at image limits) (line_address main 0) whole
-          (subst (λ (t : ℕ). HasLines image s.memory s.code t (line_address main 0) (main_lines own_name p.calls)) at_start in_main))
+      (record { len = here.has.len; long = here.has.long; bytes = here.has.bytes }) p.puts fit_puts
+      (subst (λ (t : ℕ). HasLines image s.memory s.code t 65536 (function_lines p.puts)) at_start in_function) own_name p.calls fit_calls (objects_at image limits) (line_address main 0) whole
+      (subst (λ (t : ℕ). HasLines image s.memory s.code t (line_address main 0) (main_lines own_name p.calls)) at_start in_main))
 
   meaning : (limits : Limits) → AreStandard limits → (input : List ℕ) (n : ℕ) → joint p limits input n ≡ seen_of_units (units_of p) n
   meaning limits ok input n = units_seen p limits input (fits p limits ok.in_range (let f = ok.frames in omega arith) few_calls few_puts) n

@@ -15,7 +15,6 @@ use Rattle.rv_machine.specs.Alu.{sum_of, word_sum}
 use Rattle.rv_machine.specs.Exec.{Run, turn}
 use Rattle.rv_machine.proofs.Laws.{IsWord, IsAtWord}
 use Rattle.rv_machine.proofs.Rows.{addi_turn, addiw_turn, jalr_turn, give_turn, exit_turn, lui_turn}
-use Rattle.image_run.specs.Behaviour.{seen}
 use Rattle.first_form.specs.declared.program.PutcharArgument.{PutcharArgument}
 use Rattle.first_form.specs.declared.program.PutcharArgument.TheVariants.{Parameter, Number}
 use Rattle.first_form.specs.Words.{IsInt}

@@ -1,9 +1,8 @@
 -- Lines without labels, and what stands in a machine's code where they do.
-use Rattle.std.proofs.Common.{◌≡◌, ◌<◌, ◌≤◌, ℕ, zero, suc, ◌+◌, ◌-◌, ◌*◌, ◌%◌, ◌^◌, List, [], ◌∷◌, ◌++◌, length, inl, inr, refl, sym, ap, ◌∙◌, subst, arith}
+use Rattle.std.proofs.Common.{◌≡◌, ◌<◌, ℕ, zero, suc, ◌+◌, List, [], ◌∷◌, ◌++◌, length, inl, inr, sym, ap, ◌∙◌, subst, arith}
 use Rattle.std.specs.Prelude.{slice_get, slice_index, Some}
 use Rattle.std.proofs.lemmas.Option.{slice_get_within}
 use Rattle.program_image.specs.declared.Image.{Image}
-use Rattle.rv_isa.specs.declared.insn.Insn.{Insn}
 use Rattle.rv_isa.specs.Encode.{IsEncodable, encode_of}
 use Rattle.rv_assemble.specs.declared.unit.AsmLine.{AsmLine}
 use Rattle.rv_assemble.specs.declared.unit.AsmLine.TheVariants.{Label, Plain, Branch, Call, Address}
@@ -157,15 +156,13 @@ module _ (us : List AsmUnit) (os : List ObjUnit) (image : Image) (made : AreLink
       let st = plain_stands us os image made i w k insn g.0 in
       let p = place_at us os image made i w k (slice_get_within w.unit.lines k (Plain insn) g.0) in
       let n = st.0 in
-      let inside = p.inside in
-      (
+      let inside = p.inside in (
         subst (λ (x : ℕ). IsWord s.memory s.code x (encode_of insn)) e (word_here image s (code_before os i + slice_index w.assembled.places k) insn has p.whole (omega (arith, n, inside)) st.1),
         lines_here s has some lines (k + 1) (pc + 4) g.1 h.1 (omega (arith, n, e)),
       )
   lines_here s has some (Call n ∷ lines) k pc g h e =
       let m = (call_stands us os image made i w k n j d g.0 (is ∙ sym h.0)).0 in
-      let next : line_address w (k + 1) ≡ pc + 8 = omega (arith, m, e) in
-      (
+      let next : line_address w (k + 1) ≡ pc + 8 = omega (arith, m, e) in (
         (λ r at. subst (λ (b : ℕ). Leads 2 r (moved_to r (set_register r.state.registers 1 b) (line_address d 0))) next
             (call_leads us os image made i w k n g.0 j d (is ∙ sym h.0) some r (subst (λ (x : ℕ). IsAt image r.state x) (sym e) at))),
         lines_here s has some lines (k + 1) (pc + 8) g.1 h.1 next,

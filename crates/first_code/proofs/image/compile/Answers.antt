@@ -29,4 +29,4 @@ returns c =
     let p = c.args.program.now in
     let are : c.as_slice.result.now ≡ assembly_of p = c.as_slice.ensures.value ∙ c.in_ok-units.ensures in
     compiled c.in_ok-image.image p c.requires.are_calls.numbers c.requires.are_puts.arguments c.requires.are_calls.most c.requires.are_puts.most
-        (subst (λ (us : List AsmUnit). IsImageOf us c.in_ok-image.image) are c.in_ok-image.ensures)
+    (subst (λ (us : List AsmUnit). IsImageOf us c.in_ok-image.image) are c.in_ok-image.ensures)
