@@ -58,7 +58,7 @@ def of_kind(kind):
     for name in COMPARISONS:
         add(name, (low, high), (high, low), (-1, -1))
     for name in ("mod", "modulo"):
-        add(name, (-8, 5), (8, -5), (-8, -5), (8, 4), (low, -1), (low, high), (high, low), (1, 0))
+        add(name, (-7, 2), (-8, 5), (8, -5), (-8, -5), (8, 4), (low, -1), (low, high), (high, low), (1, 0))
     for name in ("iand", "ior", "ieor"):
         add(name, (low, high), (-1, low), (-2, 7), (85, 51))
     add("ishft", (-1, width - 1), (-1, 1 - width), (1, width), (-1, -width), (1, width + 1), (1, -width - 1), (high, 1), (low, -1), (-1, 0), (low, 1), (85, 1), (-86, -3))
