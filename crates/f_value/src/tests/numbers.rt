@@ -138,7 +138,7 @@ fn numbers_of_each_kind(rt: HostRuntime) {
             assert_eq!(rt; holds(rt.alloc(), row, kind), Some(true), "{row}");
             count = count.wrapping_add(1);
         }
-        assert_eq!(rt; count, 115);
+        assert_eq!(rt; count, 117);
     }
 }
 
