@@ -17,7 +17,7 @@ use std::mem;
 pub struct Emitter {
     alloc: Global,
     // the first spare value
-    pub spare: u32,
+    spare: u32,
     // the current block, whose instructions lie from the last to the first
     insns: Vec<BlockInsn>,
     end: BlockEnd,
@@ -25,9 +25,9 @@ pub struct Emitter {
     blocks: Vec<Block>,
     at: u32,
     // of each loop that is still to be written how many blocks its body has beside its first one, the last loop first
-    pub turns: Stack,
+    turns: Stack,
     // the numbers of the blocks behind the loops around what is written, the innermost first
-    pub exits: Stack,
+    exits: Stack,
 }
 
 impl Model for Emitter {
@@ -128,6 +128,7 @@ impl Emitter {
         self.spare
     }
 
+    /// What gives the memory.
     pub fn allocator(&self) -> Global {
         self.alloc
     }

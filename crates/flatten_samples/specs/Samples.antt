@@ -1,15 +1,17 @@
 -- Small programs, and where they are placed.
-use Rattle.std.specs.Prelude.{ℕ, ◌+◌, ◌*◌, List, [], ◌∷◌, true, false}
-use Rattle.jf_base.specs.declared.numbers.Width.TheVariants.{W1, W2, W4, W8}
+use Rattle.std.specs.Prelude.{◌+◌, ◌*◌, List, [], ◌∷◌, false}
+use Rattle.jf_base.specs.declared.numbers.Width.TheVariants.{W1, W4, W8}
 use Rattle.flat_ir.specs.declared.program.Exceeded.TheVariants as X
 use Rattle.flat_ir.specs.declared.program.Operation.TheVariants as O
-use Rattle.flat_ir.specs.declared.program.FlatExpr.{FlatExpr}
 use Rattle.flat_ir.specs.declared.program.FlatExpr.TheVariants as E
 use Rattle.flat_ir.specs.declared.program.FlatStmt.{FlatStmt}
 use Rattle.flat_ir.specs.declared.program.FlatStmt.TheVariants as S
 use Rattle.flat_ir.specs.declared.program.FlatProc.{FlatProc}
 use Rattle.flat_ir.specs.declared.program.FlatProgram.{FlatProgram}
 use Rattle.flat_ir.specs.Placement.{Placement}
+use Rattle.flatten.specs.declared.blocks.BlockInsn.TheVariants as I
+use Rattle.flatten.specs.declared.blocks.BlockEnd.TheVariants as B
+use Rattle.flatten.specs.declared.blocks.BlockProc.{BlockProc}
 
 -- the image at 65536, procedures from 4096 on, and 64 bytes of frames
 abbrev pub placed : Placement
@@ -60,4 +62,17 @@ leaves_two = record {
   image = [];
   fixes = [];
   entry = 0;
+}
+
+-- a value that is set on one of two paths alone, before both give it
+abbrev pub sets_on_one_path : BlockProc
+sets_on_one_path = record {
+  params = 1;
+  blocks =
+      record { insns = []; end = B.Branch 0 1 2 }
+      ∷ record { insns = I.Number 1 7 ∷ []; end = B.Jump 2 }
+      ∷ record { insns = I.Give 1 ∷ []; end = B.Return [] }
+      ∷ [];
+  values = 2;
+  frame = 0;
 }

@@ -3,7 +3,8 @@ ghost use Rattle.behaviour.specs.Behaviour.{Running, Stopped, Limited, Frames, O
 ghost use Rattle.flat_ir.specs.Flat.{flat};
 ghost use Rattle.flatten.specs.Blocks.{blocks};
 ghost use Rattle.flatten.specs.Code.{program_code};
-ghost use Rattle.flatten_samples.specs.Samples.{placed, kinds, calls_itself, leaves_two};
+ghost use Rattle.flatten.specs.Paths.{UsesAreSet};
+ghost use Rattle.flatten_samples.specs.Samples.{placed, kinds, calls_itself, leaves_two, sets_on_one_path};
 
 /// Each kind of statement does its work: the run ends with its eleventh unit, and its blocks with their fortieth step.
 pub fn each_kind_of_statement_does_its_work()
@@ -32,4 +33,9 @@ pub fn two_loops_are_left_at_once()
     ensures ends { flat leaves_two placed [] 3 ≡ record { output = 97 ∷ []; taken = 0; ending = Limited Objects } }
     ensures blocks_go { blocks (program_code leaves_two) placed [] 6 ≡ record { output = 97 ∷ []; taken = 0; ending = Running } }
     ensures blocks_end { blocks (program_code leaves_two) placed [] 7 ≡ record { output = 97 ∷ []; taken = 0; ending = Limited Objects } }
+{}
+
+/// A use that is reached on one path without a definition is no use that is set on every path.
+pub fn a_value_set_on_one_path_alone_is_not_set()
+    ensures { ¬ UsesAreSet sets_on_one_path }
 {}
