@@ -1,0 +1,7 @@
+mod Choosing
+mod Complete
+mod Folding
+mod Lengths
+mod Sound
+mod Steps
+mod Whole
