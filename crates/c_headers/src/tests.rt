@@ -7,11 +7,27 @@ use std::alloc::{AllocError, Global};
 
 const NAMES_OF_STDDEF: &[&str] = &["size_t", "ptrdiff_t", "NULL"];
 
-const NAMES_OF_STDLIB: &[&str] = &["size_t", "NULL", "malloc", "free", "exit", "abort"];
+const NAMES_OF_STDLIB: &[&str] = &[
+    "size_t",
+    "ptrdiff_t",
+    "NULL",
+    "malloc",
+    "free",
+    "exit",
+    "abort",
+];
 
-const NAMES_OF_STRING: &[&str] = &["size_t", "NULL", "memcpy", "memset", "strlen"];
+const NAMES_OF_STRING: &[&str] = &["size_t", "ptrdiff_t", "NULL", "memcpy", "memset", "strlen"];
 
-const NAMES_OF_STDIO: &[&str] = &["size_t", "NULL", "EOF", "putchar", "getchar", "puts"];
+const NAMES_OF_STDIO: &[&str] = &[
+    "size_t",
+    "ptrdiff_t",
+    "NULL",
+    "EOF",
+    "putchar",
+    "getchar",
+    "puts",
+];
 
 const NAMES_OF_FORTRAN_BINDING: &[&str] = &[
     "size_t",

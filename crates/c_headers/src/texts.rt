@@ -83,6 +83,7 @@ pub const LIMITS: &[u8] = b"#ifndef __limits_h
 pub const STDLIB: &[u8] = b"#ifndef __stdlib_h
 #define __stdlib_h
 typedef unsigned long size_t;
+typedef long ptrdiff_t;
 #define NULL ((void*)0)
 void *malloc(size_t);
 void free(void *);
@@ -95,6 +96,7 @@ void abort(void);
 pub const STRING: &[u8] = b"#ifndef __string_h
 #define __string_h
 typedef unsigned long size_t;
+typedef long ptrdiff_t;
 #define NULL ((void*)0)
 void *memcpy(void *restrict, const void *restrict, size_t);
 void *memset(void *, int, size_t);
@@ -106,6 +108,7 @@ size_t strlen(const char *);
 pub const STDIO: &[u8] = b"#ifndef __stdio_h
 #define __stdio_h
 typedef unsigned long size_t;
+typedef long ptrdiff_t;
 #define NULL ((void*)0)
 #define EOF (-1)
 int putchar(int);
