@@ -1,5 +1,5 @@
 -- Lists that grow up to an index.
-use Rattle.std.proofs.Common.{◌≡◌, ℕ, zero, suc, ◌<◌, ◌≤◌, List, [], ◌∷◌, ◌++◌, map, length, max, ◌+◌, refl, ap, arith}
+use Rattle.std.proofs.Common.{◌≡◌, ℕ, zero, suc, ◌<◌, ◌≤◌, List, [], ◌∷◌, ◌++◌, map, length, max, ◌+◌, get_or, refl, ap, arith}
 use Rattle.std.proofs.Math.ListN.{set}
 use Rattle.c_macros.specs.Keeping.{put}
 
@@ -24,3 +24,9 @@ put_length [] zero x d = omega arith
 put_length [] (suc n) x d = omega (arith, put_length [] n x d)
 put_length (y ∷ ys) zero x d = omega arith
 put_length (y ∷ ys) (suc n) x d = omega (arith, put_length ys n x d)
+
+pub one_empty : {A : Type 0} (xs : List (List A)) (n : ℕ) → get_or (xs ++ [] ∷ []) n [] ≡ get_or xs n []
+one_empty [] zero = refl
+one_empty [] (suc n) = refl
+one_empty (x ∷ xs) zero = refl
+one_empty (x ∷ xs) (suc n) = one_empty xs n

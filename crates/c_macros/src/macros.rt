@@ -1,8 +1,9 @@
 //! A table of macros.
 
-ghost use Rattle.std.specs.Prelude.{◌≡◌, ◌≤◌, ◌<◌, ◌+◌, max, [], length, OnOk, IfOk, false, slice_index_or};
+ghost use Rattle.std.specs.Prelude.{◌≡◌, ℕ, ◌≤◌, ◌<◌, ◌+◌, max, List, [], length, OnOk, OnErr, IfOk, false, slice_index_or, slice_set};
 ghost use Rattle.c_macros.specs.Stack.{Expanded, texts};
 ghost use Rattle.c_macros.specs.Keeping.{State, put, defined, undefined, AreTracked, AreDown};
+ghost use Rattle.c_macros.specs.declared.token.Token.{Token};
 
 use crate::quick::expand_quick;
 use crate::table::{is_up, set};
@@ -67,19 +68,19 @@ fn put_flag(flags: &mut Vec<bool>, name: usize, up: bool) -> Result<(), AllocErr
     Ok(())
 }
 
-// Puts a body there, with empty ones before it where there are too few.
-fn put_body(
+// Makes room for the body of a name, which is empty where it wasn't there.
+fn make_room_for_body(
     alloc: Global,
     bodies: &mut Vec<Vec<Token>>,
     name: usize,
-    body: Vec<Token>,
 ) -> Result<(), AllocError>
-    ensures { OnOk result (texts bodies.new.items ≡ put (texts bodies.old.items) name body.items []) }
+    ensures same { (n : ℕ) → slice_index_or (texts bodies.new.items) n [] ≡ slice_index_or (texts bodies.old.items) n [] }
+    ensures room { OnOk result (name < length bodies.new.items) }
+    ensures value { OnOk result ((body : List Token) → slice_set (texts bodies.new.items) name body ≡ put (texts bodies.old.items) name body []) }
 {
     while bodies.len() <= name {
         bodies.push(Vec::new(alloc))?;
     }
-    bodies[name] = body;
     Ok(())
 }
 
@@ -121,12 +122,15 @@ impl MacroTable {
         name: usize,
         body: Vec<Token>,
     ) -> Result<(), AllocError>
-        ensures { OnOk result (self.new ≡ defined self.old name body.items) }
+        ensures value { OnOk result (self.new ≡ defined self.old name body.items) }
+        ensures size { length self.new.on ≤ max (length self.old.on) (name + 1) }
+        ensures err { OnErr result ((n : ℕ) → slice_index_or self.new.bodies n [] ≡ slice_index_or self.old.bodies n []) }
     {
         forget(&mut self.void, &mut self.remembered);
         make_room(&mut self.void, name)?;
-        put_body(alloc, &mut self.bodies, name, body)?;
+        make_room_for_body(alloc, &mut self.bodies, name)?;
         put_flag(&mut self.on, name, true)?;
+        self.bodies[name] = body;
         Ok(())
     }
 
@@ -151,6 +155,7 @@ impl MacroTable {
     ) -> Result<bool, AllocError>
         requires { length out.old.items ≤ limit }
         ensures bodies { self.new.bodies ≡ self.old.bodies }
+        ensures size { length self.new.on ≡ length self.old.on }
         ensures tokens { IfOk result (λ fits. Expanded self.old.bodies limit token place fits self.old.on out.old.items self.new.on out.new.items) }
     {
         match expand_quick(
