@@ -1,5 +1,6 @@
 -- The values of controlling expressions: the operators of ISO/IEC 9899:2011, 6.5, over intmax_t and uintmax_t of 64 bits (6.10.1p4).
-use Rattle.std.specs.Prelude.{ℕ, ◌+◌, ◌-◌, ◌*◌, ◌/◌, ◌%◌, ◌^◌, ℤ, pos, negsuc, neg_ℤ, ◌+ℤ◌, ◌-ℤ◌, ◌*ℤ◌, int_lt, int_eq, int_div, int_rem, nat_lt, nat_le, ◌==◌, bit_and, bit_or, bit_xor, Option, Some, None, Bool, true, false, ◌||◌, not, if◌then◌else◌}
+use Rattle.std.specs.Prelude.{ℕ, ◌+◌, ◌-◌, ◌*◌, ◌/◌, ◌%◌, ◌^◌, ℤ, pos, negsuc, neg_ℤ, ◌+ℤ◌, ◌-ℤ◌, ◌*ℤ◌, int_lt, int_div, int_rem, nat_lt, nat_le, ◌==◌, bit_and, bit_or, bit_xor, Option, Some, None, Bool, true, false, ◌||◌, not, if◌then◌else◌}
+use Rattle.std.specs.Ordering.{int_eq}
 use Rattle.std.specs.Int.{w64, cast_unsigned, int_bit_and, int_bit_or, int_bit_xor, int_shr}
 use Rattle.c_tree.specs.declared.operator.BinaryOperator.{BinaryOperator}
 use Rattle.c_tree.specs.declared.operator.BinaryOperator.TheVariants as op

@@ -1,5 +1,5 @@
 -- Integer constants, read from left to right.
-use Rattle.std.specs.Prelude.{ℕ, List, [], ◌∷◌, length, Option, Some, None, Bool, true, false, ◌==◌, ◌||◌, if◌then◌else◌, slice_index}
+use Rattle.std.specs.Prelude.{ℕ, List, [], ◌∷◌, length, Option, Some, None, Bool, true, false, ◌==◌, ◌||◌, if◌then◌else◌}
 use Rattle.c_literal.specs.declared.integer.Radix.{Radix}
 use Rattle.c_literal.specs.declared.integer.Radix.TheVariants.{Decimal, Octal, Hexadecimal}
 use Rattle.c_literal.specs.declared.integer.LongSuffix.{LongSuffix}
@@ -7,7 +7,7 @@ use Rattle.c_literal.specs.declared.integer.LongSuffix.TheVariants.{Absent, Long
 use Rattle.c_literal.specs.declared.integer.IntegerConstant.{IntegerConstant}
 use Rattle.c_literal.specs.declared.suffix.Suffixes.{Suffixes}
 use Rattle.c_literal.specs.Integers.{base_of}
-use Rattle.c_literal.specs.Digits.{choose, digits_at}
+use Rattle.c_literal.specs.Digits.{digits_at}
 
 -- ---- suffixes
 
@@ -26,11 +26,11 @@ long_at [] = (Absent, [])
 long_at (c ∷ cs) = if (c == 108) || (c == 76) then second_at c cs else (Absent, c ∷ cs)
 
 abbrev pub ended : Bool → LongSuffix → List ℕ → Option Suffixes
-ended is_unsigned long [] = Some (record { is_unsigned = is_unsigned; long = long })
-ended is_unsigned long (c ∷ cs) = None
+ended is_unsigned length_suffix [] = Some (record { is_unsigned = is_unsigned; long = length_suffix })
+ended is_unsigned length_suffix (c ∷ cs) = None
 
 abbrev pub turned : LongSuffix → Bool × List ℕ → Option Suffixes
-turned long x = ended x.0 long x.1
+turned length_suffix x = ended x.0 length_suffix x.1
 
 abbrev pub suffix_from : Bool → LongSuffix × List ℕ → Option Suffixes
 suffix_from true x = ended true x.0 x.1

@@ -49,7 +49,3 @@ unfoldable pub bytes_at : ℕ → List ℕ → List ℕ → Option (List ℕ)
 bytes_at k bytes [] = Some bytes
 bytes_at zero bytes (c ∷ cs) = None
 bytes_at (suc k) bytes (c ∷ cs) = choose (element_at 34 (c ∷ cs)) None (λ x. bytes_at k (bytes ++ x.0 ∷ []) x.1)
-
-abbrev pub alone : Found → Option ℕ
-alone None = None
-alone (Some x) = if length x.1 == 0 then Some x.0 else None

@@ -1,5 +1,5 @@
 -- Character constants and string literals (ISO/IEC 9899:2011, 6.4.4.4 and 6.4.5), by what stands between their quotes.
-use Rattle.std.specs.Prelude.{◌≡◌, ◌≢◌, ℕ, ◌+◌, ◌<◌, ◌≤◌, ◌++◌, List, [], ◌∷◌, length, Option, Some, None, ◌==◌, if◌then◌else◌, ◌⊎◌}
+use Rattle.std.specs.Prelude.{◌≡◌, ◌≢◌, ℕ, ◌<◌, ◌≤◌, ◌++◌, List, [], ◌∷◌, length, Option, Some, None, ◌==◌, if◌then◌else◌, ◌⊎◌}
 use Rattle.std.specs.Char.{digit_value}
 use Rattle.std.specs.Str.Parse.{IsNumeral, digits_value}
 
@@ -28,12 +28,12 @@ simple_value c = if c == 39 then Some 39 else if c == 34 then Some 34 else if c 
     else if c == 97 then Some 7 else if c == 98 then Some 8 else if c == 102 then Some 12 else if c == 110 then Some 10
     else if c == 114 then Some 13 else if c == 116 then Some 9 else if c == 118 then Some 11 else None
 
--- the element stands for this number
+-- the element stands for this byte: an escape sequence above 255 is out of range (6.4.4.4p9)
 abbrev pub StandsFor : Element → ℕ → Type 0
 StandsFor (Plain c) n = n ≡ c
 StandsFor (Simple c) n = simple_value c ≡ Some n
-StandsFor (Octal ds) n = n ≡ digits_value 8 ds
-StandsFor (Hexadecimal ds) n = n ≡ digits_value 16 ds
+StandsFor (Octal ds) n = (n ≡ digits_value 8 ds) × (n < 256)
+StandsFor (Hexadecimal ds) n = (n ≡ digits_value 16 ds) × (n < 256)
 
 -- no digit of the radix stands first
 abbrev pub NoDigit : ℕ → List ℕ → Type 0
@@ -48,11 +48,10 @@ Fits quote (Simple c) rest = Unit {0}
 Fits quote (Octal ds) rest = IsNumeral 8 ds × (length ds ≤ 3) × ((length ds ≡ 3) ⊎ NoDigit 8 rest)
 Fits quote (Hexadecimal ds) rest = IsNumeral 16 ds × NoDigit 16 rest
 
--- The element fits before the rest, and stands for this byte: a number above 255 is none of unsigned char (6.4.4.4p9).
+-- the element fits before the rest, and stands for this byte
 pub record Gives (quote : ℕ) (e : Element) (rest : List ℕ) (byte : ℕ) : Type 0 where
   pub fits : Fits quote e rest
   pub stands_for : StandsFor e byte
-  pub in_range : byte < 256
 
 -- ---- character constants
 

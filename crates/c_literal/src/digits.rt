@@ -42,9 +42,14 @@ pub fn digits_at(radix: u32, text: &[u8]) -> (Option<u64>, &[u8])
 {
     let mut value = Some(0);
     let mut rest = text;
-    while let Some((digit, tail)) = digit_at(radix, rest) {
-        value = counted(radix, value, digit);
-        rest = tail;
+    while let Some((first, tail)) = rest.split_first() {
+        match (*first as char).to_digit(radix) {
+            None => return (value, rest),
+            Some(digit) => {
+                value = counted(radix, value, digit as u64);
+                rest = tail;
+            }
+        }
     }
     (value, rest)
 }

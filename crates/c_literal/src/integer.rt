@@ -1,6 +1,6 @@
 //! Integer constants.
 
-ghost use Rattle.std.specs.Prelude.{◌≡◌, MatchOption, Bool, false, true};
+ghost use Rattle.std.specs.Prelude.{◌≡◌, MatchOption, false, true};
 ghost use Rattle.c_literal.specs.Integers.{IsConstant, IsNoConstant, type_of, base_of, candidates, first_type};
 ghost use Rattle.c_literal.specs.IntegerReading.{radix_at, constant_at};
 
@@ -41,9 +41,14 @@ impl IntegerConstant {
     pub fn kind(self) -> ConstantType
         ensures { result ≡ type_of self }
     {
-        let is_decimal = self.radix == Radix::Decimal;
         match (self.is_unsigned, self.long) {
-            (false, LongSuffix::Absent) => plain_kind(is_decimal, self.value),
+            (false, LongSuffix::Absent) => {
+                if self.radix == Radix::Decimal {
+                    decimal_kind(self.value)
+                } else {
+                    other_kind(self.value)
+                }
+            }
             (false, LongSuffix::Long) => long_kind(self.value),
             (false, LongSuffix::LongLong) => long_long_kind(self.value),
             (true, LongSuffix::Absent) => unsigned_kind(self.value),
@@ -53,22 +58,38 @@ impl IntegerConstant {
     }
 }
 
-// The type of a constant without a suffix.
-fn plain_kind(is_decimal: bool, value: u64) -> ConstantType
-    ensures { result ≡ first_type (candidates is_decimal false LongSuffix.Absent) value }
+// The type of a decimal constant without a suffix.
+fn decimal_kind(value: u64) -> ConstantType
+    ensures { result ≡ first_type (candidates false LongSuffix.Absent true) value }
 {
     if value < 0x8000_0000 {
         ConstantType::Int
-    } else if !is_decimal && value < 0x1_0000_0000 {
-        ConstantType::UnsignedInt
+    } else if value < 0x8000_0000_0000_0000 {
+        ConstantType::Long
     } else {
-        long_kind(value)
+        ConstantType::UnsignedLong
+    }
+}
+
+// The type of an octal or hexadecimal constant without a suffix.
+fn other_kind(value: u64) -> ConstantType
+    ensures { result ≡ first_type (candidates false LongSuffix.Absent false) value }
+{
+    if value < 0x8000_0000 {
+        ConstantType::Int
+    } else if value < 0x1_0000_0000 {
+        ConstantType::UnsignedInt
+    } else if value < 0x8000_0000_0000_0000 {
+        ConstantType::Long
+    } else {
+        ConstantType::UnsignedLong
     }
 }
 
 // The type of a constant with a long suffix alone.
 fn long_kind(value: u64) -> ConstantType
-    ensures { (decimal : Bool) → result ≡ first_type (candidates decimal false LongSuffix.Long) value }
+    ensures decimal { result ≡ first_type (candidates false LongSuffix.Long true) value }
+    ensures other { result ≡ first_type (candidates false LongSuffix.Long false) value }
 {
     if value < 0x8000_0000_0000_0000 {
         ConstantType::Long
@@ -79,7 +100,7 @@ fn long_kind(value: u64) -> ConstantType
 
 // The type of a constant with a long long suffix alone.
 fn long_long_kind(value: u64) -> ConstantType
-    ensures { (decimal : Bool) → result ≡ first_type (candidates decimal false LongSuffix.LongLong) value }
+    ensures { result ≡ first_type (candidates false LongSuffix.LongLong true) value }
 {
     if value < 0x8000_0000_0000_0000 {
         ConstantType::LongLong
@@ -90,7 +111,7 @@ fn long_long_kind(value: u64) -> ConstantType
 
 // The type of a constant with an unsigned suffix alone.
 fn unsigned_kind(value: u64) -> ConstantType
-    ensures { (decimal : Bool) → result ≡ first_type (candidates decimal true LongSuffix.Absent) value }
+    ensures { result ≡ first_type (candidates true LongSuffix.Absent true) value }
 {
     if value < 0x1_0000_0000 {
         ConstantType::UnsignedInt

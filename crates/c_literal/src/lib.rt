@@ -7,9 +7,11 @@
 mod digits;
 mod element;
 mod integer;
+mod laws;
 mod literal;
 mod suffix;
 
 pub use c_tree::ConstantType;
 pub use integer::{IntegerConstant, LongSuffix, Radix, integer_constant};
+pub use laws::{one_character, one_constant, one_string};
 pub use literal::{between_quotes, character_constant, is_string_literal, string_literal};

@@ -2,7 +2,6 @@
 
 ghost use Rattle.std.specs.Prelude.{◌≡◌, ◌↔◌, IsTrue, MatchOption, IfOk, List as ListOf, ℕ};
 ghost use Rattle.c_literal.specs.Literals.{IsCharacter, IsNoCharacter, IsString, IsNoString, IsBetween, IsUnquoted};
-ghost use Rattle.c_literal.specs.LiteralReading.{alone, element_at, bytes_at};
 
 use crate::element::element_at;
 use jf_base::List;
