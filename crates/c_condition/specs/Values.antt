@@ -1,7 +1,7 @@
 -- The values of controlling expressions: the operators of ISO/IEC 9899:2011, 6.5, over intmax_t and uintmax_t of 64 bits (6.10.1p4).
 use Rattle.std.specs.Prelude.{ℕ, ◌+◌, ◌-◌, ◌*◌, ◌/◌, ◌%◌, ◌^◌, ℤ, pos, negsuc, neg_ℤ, ◌+ℤ◌, ◌-ℤ◌, ◌*ℤ◌, int_lt, int_div, int_rem, nat_lt, nat_le, ◌==◌, bit_and, bit_or, bit_xor, Option, Some, None, Bool, true, false, ◌||◌, not, if◌then◌else◌}
 use Rattle.std.specs.Ordering.{int_eq}
-use Rattle.std.specs.Int.{w64, cast_unsigned, int_bit_and, int_bit_or, int_bit_xor, int_shr}
+use Rattle.std.specs.Int.{w64, cast_unsigned, bit_not, int_bit_and, int_bit_or, int_bit_xor, int_bit_not, int_shr}
 use Rattle.c_tree.specs.declared.operator.BinaryOperator.{BinaryOperator}
 use Rattle.c_tree.specs.declared.operator.BinaryOperator.TheVariants as op
 use Rattle.c_literal.specs.declared.integer.IntegerConstant.{IntegerConstant}
@@ -56,6 +56,15 @@ abbrev pub in_range : ℤ → Outcome
 in_range (pos n) = if nat_lt n (2 ^ 63) then Signed (pos n) else Without false
 in_range (negsuc n) = if nat_lt n (2 ^ 63) then Signed (negsuc n) else Without false
 
+-- results that may be there
+abbrev pub signed : Option ℤ → Outcome
+signed None = Without false
+signed (Some z) = Signed z
+
+abbrev pub unsigned : Option ℕ → Outcome
+unsigned None = Without true
+unsigned (Some n) = Unsigned n
+
 -- an unsigned result is reduced modulo 2^64 (6.2.5p9)
 abbrev pub reduced : ℕ → Outcome
 reduced n = Unsigned (n % 2 ^ 64)
@@ -72,10 +81,11 @@ with_type true (Without u) = Without true
 abbrev pub paired : Outcome → Outcome → Operands
 paired (Signed a) (Signed b) = both.Signed a b
 paired (Signed a) (Unsigned b) = both.Unsigned (cast_unsigned w64 a) b
+paired (Signed a) (Without u) = both.Without u
 paired (Unsigned a) (Signed b) = both.Unsigned a (cast_unsigned w64 b)
 paired (Unsigned a) (Unsigned b) = both.Unsigned a b
+paired (Unsigned a) (Without u) = both.Without true
 paired (Without u) y = both.Without (u || is_unsigned y)
-paired x (Without v) = both.Without (is_unsigned x || v)
 
 -- ---- operators on both operands
 
@@ -148,15 +158,17 @@ count_of (Without u) = None
 
 -- the left operand times a power of two
 abbrev pub raised : Outcome → Option ℕ → Outcome
+raised x None = Without (is_unsigned x)
 raised (Signed z) (Some k) = in_range (z *ℤ pos (2 ^ k))
 raised (Unsigned n) (Some k) = reduced (n * 2 ^ k)
-raised x _ = Without (is_unsigned x)
+raised (Without u) (Some k) = Without u
 
 -- the left operand over a power of two, rounded down
 abbrev pub lowered : Outcome → Option ℕ → Outcome
+lowered x None = Without (is_unsigned x)
 lowered (Signed z) (Some k) = Signed (int_shr z k)
 lowered (Unsigned n) (Some k) = Unsigned (n / 2 ^ k)
-lowered x _ = Without (is_unsigned x)
+lowered (Without u) (Some k) = Without u
 
 -- ---- operators that evaluate one side at most (6.5.13 to 6.5.15)
 
@@ -203,9 +215,9 @@ binary op.Or x y = flag (disjunction (truth x) (truth y))
 abbrev pub unary : UnaryOperator → Outcome → Outcome
 unary Plus x = x
 unary Minus (Signed z) = in_range (neg_ℤ z)
-unary Minus (Unsigned n) = reduced (2 ^ 64 - n)
-unary Complement (Signed z) = Signed (neg_ℤ z -ℤ pos 1)
-unary Complement (Unsigned n) = Unsigned (2 ^ 64 - 1 - n)
+unary Minus (Unsigned n) = reduced (0 + (2 ^ 64 - n))
+unary Complement (Signed z) = Signed (int_bit_not w64 z)
+unary Complement (Unsigned n) = Unsigned (bit_not w64 n)
 unary Not x = flag (negated (truth x))
 unary _ (Without u) = Without u
 

@@ -4,8 +4,10 @@
 //! and macro replacement, and it has a value or it has none.
 #![tactic(auto)]
 
+mod arithmetic;
 mod condition;
 mod number;
+mod operators;
 mod outcome;
 mod token;
 

@@ -15,3 +15,6 @@ pub use c_tree::ConstantType;
 pub use integer::{IntegerConstant, LongSuffix, Radix, integer_constant};
 pub use laws::{one_character, one_constant, one_string};
 pub use literal::{between_quotes, character_constant, is_string_literal, string_literal};
+
+#[cfg(test)]
+mod tests;
