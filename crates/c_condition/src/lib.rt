@@ -6,6 +6,7 @@
 
 mod arithmetic;
 mod condition;
+mod marks;
 mod number;
 mod operators;
 mod outcome;
