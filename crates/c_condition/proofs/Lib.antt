@@ -1,0 +1,5 @@
+mod Choosing
+mod Complete
+mod Folding
+mod Lengths
+mod Sound

@@ -1,0 +1,4 @@
+pub mod Choices
+pub mod Grammar
+pub mod Reading
+pub mod Values

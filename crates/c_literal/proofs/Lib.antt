@@ -1,0 +1,4 @@
+mod Elements
+mod IntegerLaws
+mod Runs
+mod Strings

@@ -1,0 +1,5 @@
+pub mod Digits
+pub mod IntegerReading
+pub mod Integers
+pub mod LiteralReading
+pub mod Literals
