@@ -28,6 +28,7 @@ first_place p x xs = pick (p x)
     more false e =
         let ge = ltb-false (position_or_len p xs) (length xs) e in
         let t : ltb (1 + position_or_len p xs) (length (x ∷ xs)) ≡ false = le-ltb (1 + position_or_len p xs) (length (x ∷ xs)) (omega (arith, ge)) in rw t refl
+
     pick : (b : Bool) → cond (ltb (cond (not b) (1 + position_or_len p xs) 0) (length (x ∷ xs))) (Some (cond (not b) (1 + position_or_len p xs) 0)) None ≡ cond b (Some 0) (seen (λ n. suc n) (position p xs))
     pick true = let t : ltb 0 (length (x ∷ xs)) ≡ true = lt-ltb 0 (length (x ∷ xs)) (omega arith) in rw t refl
     pick false = more (ltb (position_or_len p xs) (length xs)) refl

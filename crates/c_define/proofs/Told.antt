@@ -74,6 +74,7 @@ is_no_macro t n e = pick (get_or t.state.on n false) refl e
   where
     m : Macro
     m = record { body = map (token_at t.names t.others) (get_or t.state.bodies n []); written = get_or t.written n [] }
+
     pick : (b : Bool) → get_or t.state.on n false ≡ b → cond b (Some m) None ≡ None → get_or t.state.on n false ≡ false
     pick false is e = is
     pick true is e = cc
@@ -96,6 +97,7 @@ module _ (t : Tables) (h : AreTables t.names t.others t.state) (t' : Tables) (w 
     where
       inner : m < length t.names → get_or t.names m [] ≡ y
       inner lt = sym (get_old t.names w.more_names m [] lt) ∙ ap (λ l. get_or l m []) (sym w.names_are) ∙ (number_within t'.names y m some).1
+
       pick : (b : Bool) → ltb m (length t.names) ≡ b → get_or t.state.on m false ≡ false
       pick true e =
           let lt = ltb-true m (length t.names) e in
@@ -195,8 +197,10 @@ module _ (t : Tables) (x : List ℕ) where
     where
       none : macro_at t (number_of t.names x) ≡ None
       none = ap (macro_at t) e
+
       size : count t.state.on ≡ cond (is_some (macro_at t (number_of t.names x))) (count t.state.on - 1) (count t.state.on)
       size = rw none refl
+
       each : (y : List ℕ) → macro_at t (number_of t.names y) ≡ cond (bytes_eq y x) None (macro_at t (number_of t.names y))
       each y = pick (bytes_eq y x) refl
         where
@@ -213,6 +217,7 @@ module _ (t : Tables) (x : List ℕ) where
       where
         other : (m : ℕ) → (m ≡ n → ⊥) → macro_at fewer_tables (Some m) ≡ macro_at t (Some m)
         other m ne = rw get_or-set_other refl
+
         each : (y : List ℕ) → macro_at fewer_tables (number_of t.names y) ≡ cond (bytes_eq y x) None (macro_at t (number_of t.names y))
         each y = pick (bytes_eq y x) refl (number_of t.names y) refl
           where
@@ -221,9 +226,11 @@ module _ (t : Tables) (x : List ℕ) where
             pick true f (Some m) e = let same : Some m ≡ Some n = sym e ∙ ap (number_of t.names) (same_bytes y x f) ∙ at in let equal : m ≡ n = cc in rw (equal, down_there t.state.on n) refl
             pick false f None e = refl
             pick false f (Some m) e = other m (apart t.names y x m n e at f)
+
         sized : (b : Bool) (m : Macro) → get_or t.state.on n false ≡ b → count (set t.state.on n false) ≡ cond (is_some (cond b (Some m) None)) (count t.state.on - 1) (count t.state.on)
         sized true m f = let e = fewer t.state.on n f in omega arith
         sized false m f = ap count (set_down t.state.on n f)
+
         size : count (set t.state.on n false) ≡ cond (is_some (macro_at t (number_of t.names x))) (count t.state.on - 1) (count t.state.on)
         size = rw at (sized (get_or t.state.on n false) _ refl)
 

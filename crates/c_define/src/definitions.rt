@@ -192,7 +192,10 @@ impl Definitions {
             Some(number) => {
                 let mut numbers = Vec::new(alloc);
                 let room = limit - out.len();
-                if !self.macros.expand(alloc, &mut numbers, room, Token::Name(number), place)? {
+                if !self
+                    .macros
+                    .expand(alloc, &mut numbers, room, Token::Name(number), place)?
+                {
                     return Ok(false);
                 }
                 put_out(alloc, &self.names, &self.others, &numbers, out)?;

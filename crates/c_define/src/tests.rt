@@ -31,11 +31,7 @@ fn body(alloc: Global, first: CToken, second: CToken) -> Result<Vec<CToken>, All
 }
 
 // The names and commas that a name expands to, or `-` where they are more than three tokens.
-fn expanded(
-    alloc: Global,
-    macros: &mut Definitions,
-    name: &[u8],
-) -> Result<String, AllocError> {
+fn expanded(alloc: Global, macros: &mut Definitions, name: &[u8]) -> Result<String, AllocError> {
     let mut tokens: Vec<CSpanned> = Vec::new(alloc);
     let mut out = String::new(alloc);
     if !macros.expand(alloc, name, PLACE, &mut tokens, 3)? {

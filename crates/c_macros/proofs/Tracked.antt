@@ -31,10 +31,12 @@ one_fewer void void' names names' n ne ve t m e = pick (eqb m n) refl (member m 
   where
     up : get_or (set void n false) m false ≡ true
     up = ap (λ v. get_or v m false) (sym ve) ∙ e
+
     set_down : (v : List Bool) (k : ℕ) → get_or (set v k false) k false ≡ false
     set_down [] k = refl
     set_down (b ∷ bs) zero = refl
     set_down (b ∷ bs) (suc k) = set_down bs k
+
     pick : (b : Bool) → eqb m n ≡ b → (c : Bool) → member m names' ≡ c → member m names' ≡ true
     pick b be true ce = ce
     pick true be false ce = let d = set_down void n in let same = ap (λ k. get_or (set void n false) k false) (eqb-true m n be) in cc

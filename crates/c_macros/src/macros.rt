@@ -116,12 +116,7 @@ impl MacroTable {
     }
 
     /// Makes the name a macro with this body.
-    pub fn define(
-        &mut self,
-        alloc: Global,
-        name: usize,
-        body: Vec<Token>,
-    ) -> Result<(), AllocError>
+    pub fn define(&mut self, alloc: Global, name: usize, body: Vec<Token>) -> Result<(), AllocError>
         ensures value { OnOk result (self.new ≡ defined self.old name body.items) }
         ensures size { length self.new.on ≤ max (length self.old.on) (name + 1) }
         ensures err { OnErr result ((n : ℕ) → slice_index_or self.new.bodies n [] ≡ slice_index_or self.old.bodies n []) }

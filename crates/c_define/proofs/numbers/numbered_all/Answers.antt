@@ -18,5 +18,5 @@ loop-token-preserved c =
       tt,
       wider_both c.args.names.now c.args.others.now.items c.loop-token.names c.loop-token.others.items c.numbered.new.names c.numbered.new.others.items i.2 w,
       subst (λ (l : List Token). AreNumbers c.numbered.new.names c.numbered.new.others.items (c.loop-token.yielded ++ c.in-Some.token ∷ []) l) (sym c.in_ok-push.ensures.items)
-      (one_number c.loop-token.names c.loop-token.others.items c.numbered.new.names c.numbered.new.others.items w c.loop-token.yielded c.in-Some.token c.loop-token.numbers.items c.in_ok-numbered.field-0 i.3 n.0 n.1),
+          (one_number c.loop-token.names c.loop-token.others.items c.numbered.new.names c.numbered.new.others.items w c.loop-token.yielded c.in-Some.token c.loop-token.numbers.items c.in_ok-numbered.field-0 i.3 n.0 n.1),
     )

@@ -8,7 +8,7 @@ use Rattle.c_macros.proofs.macros.make_room_for_body.Given as goal
 abbrev pub invariant-loop-alloc : goal.invariant-loop-alloc
 invariant-loop-alloc l = record {
   same : (n : ℕ) → get_or (texts l.bodies.items) n [] ≡ get_or (texts l.fn.bodies.items) n [];
-  value : (body : List Token) → put (texts l.bodies.items) l.name body [] ≡ put (texts l.fn.bodies.items) l.name body []
+  value : (body : List Token) → put (texts l.bodies.items) l.name body [] ≡ put (texts l.fn.bodies.items) l.name body [];
 }
 
 abbrev pub decreases-loop-alloc : goal.decreases-loop-alloc
