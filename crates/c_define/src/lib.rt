@@ -8,6 +8,7 @@ mod names;
 mod numbers;
 
 pub use definitions::{Definitions, Written};
+pub use numbers::copied_token;
 
 #[cfg(test)]
 mod tests;

@@ -68,7 +68,8 @@ fn copied(alloc: Global, spelling: &List<u8>) -> Result<List<u8>, AllocError>
     Ok(List::from_vec(spelling.as_slice().to_vec(alloc)?))
 }
 
-fn copy(alloc: Global, token: &CToken) -> Result<CToken, AllocError>
+/// A copy of a token.
+pub fn copied_token(alloc: Global, token: &CToken) -> Result<CToken, AllocError>
     ensures { IfOk result (λ t. t ≡ token.now) }
 {
     match token {
@@ -93,7 +94,7 @@ pub fn token_at(
         Token::Name(number) => Ok(CToken::Id(List::from_vec(names.name(number).to_vec(alloc)?))),
         Token::Other(number) => {
             if number < others.len() {
-                copy(alloc, &others[number])
+                copied_token(alloc, &others[number])
             } else {
                 Ok(CToken::Mark(Mark::Comma))
             }
