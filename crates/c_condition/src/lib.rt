@@ -19,3 +19,6 @@ pub use condition::condition_value;
 pub use laws::{one_expression, one_value};
 pub use number::Number;
 pub use token::Token;
+
+#[cfg(test)]
+mod tests;
