@@ -73,7 +73,7 @@ level_shorter {A} g n r i h ts x e = let P : Found A → Type 0 = λ o. IfSome o
     let p : Reads g n h ts x = subst P e (level_sound g n r i h ts) in
     let Q : List Token → Type 0 = λ t. length x.1 < length t in subst Q (sym p.spelled) (longer p.tree x.1)
 
-infix_shorter : (h : ℕ) (ts : List Token) (o : BinaryOperator × List Token) → infix_at h ts ≡ Some o → length o.1 < length ts
+pub infix_shorter : (h : ℕ) (ts : List Token) (o : BinaryOperator × List Token) → infix_at h ts ≡ Some o → length o.1 < length ts
 infix_shorter h ts o e = let P : Option (BinaryOperator × List Token) → Type 0 = λ p. IfSome p (λ x. (ts ≡ token.Mark (binary_mark x.0) ∷ x.1) × (binary_height x.0 ≡ h)) in
     let p = subst P e (infix_sound h ts) in
     let s : length ts ≡ length (token.Mark (binary_mark o.0) ∷ o.1) = ap length p.0 in omega arith
@@ -97,6 +97,7 @@ links_fuel {A} g lower s h (suc j) (suc k) left ts a b = go (λ x i c d. links_f
         → and_then p (λ x. links_at g lower h j (g.binary o.0 left x.0) x.1) ≡ and_then p (λ x. links_at g lower h k (g.binary o.0 left x.0) x.1)
     after again o l None e = refl
     after again o l (Some x) e = let m : length x.1 < length o.1 = s o.1 x e in again (g.binary o.0 left x.0) x.1 (omega arith) (omega arith)
+
     go : ((x : A) (us : List Token) → length us ≤ j → length us ≤ k → links_at g lower h j x us ≡ links_at g lower h k x us) → (o : Option (BinaryOperator × List Token)) → infix_at h ts ≡ o
         → choose o (Some (left, ts)) (λ o. and_then (lower o.1) (λ x. links_at g lower h j (g.binary o.0 left x.0) x.1)) ≡ choose o (Some (left, ts)) (λ o. and_then (lower o.1) (λ x. links_at g lower h k (g.binary o.0 left x.0) x.1))
     go again None e = refl
@@ -132,11 +133,14 @@ chain_taken {A} g n r i h c b (Binary o left right) rest f l s = go (nat_le_or (
   where
     nat_le_or : (a b : ℕ) → a ≤ suc b → (a ≤ b) ⊎ (a ≡ suc b)
     nat_le_or a b m = grind (arith)
+
     more : List Token
     more = token.Mark (binary_mark o) ∷ spell right rest
+
     next : binary_height o ≡ suc h → links_at g (level_at g r h) (suc h) (length more) (fold g left) more ≡ links_at g (level_at g r h) (suc h) (length (spell right rest)) (fold g (Binary o left right)) rest
     next e = let P : ℕ → Type 0 = λ k. infix_at k more ≡ Some (o, spell right rest) in let t : P (suc h) = subst P e (infix_taken o (spell right rest)) in
         link_taken g (level_at g r h) (suc h) o (length (spell right rest)) (fold g left) (fold g right) (spell right rest) rest t (c right rest f.1 (let l = f.3 in omega arith) s)
+
     go : (binary_height o ≤ h) ⊎ (binary_height o ≡ suc h) → (h < binary_height o → level_at g r (suc h) (spell left more) ≡ links_at g (level_at g r h) (suc h) (length more) (fold g left) more)
         → level_at g r (suc h) (spell left more) ≡ links_at g (level_at g r h) (suc h) (length rest) (fold g (Binary o left right)) rest
     go (inl low) again = ap (λ o. and_then o (λ x. links_at g (level_at g r h) (suc h) (length x.1) x.0 x.1)) (c (Binary o left right) rest f low s)
@@ -159,9 +163,9 @@ unfolding conditional_at
 plain_taken g n r i c zero e rest f l s m = absurd (let t : length rest < length (spell e rest) = longer e rest in omega arith)
 plain_taken g n r i c (suc k) e rest f l s m =
     ap (λ o. and_then o (λ x. choose (behind joint.Question x.1) (Some x) (λ middle. and_then (r.whole middle) (λ y. and_then (behind joint.Colon y.1) (λ last. and_then (conditional_at g r k last) (λ z. Some (g.conditional x.0 y.0 z.0, z.1)))))))
-        (level_taken g n r i c 10 (omega arith) e rest f l (stops_lower 11 10 rest (omega arith) s))
+    (level_taken g n r i c 10 (omega arith) e rest f l (stops_lower 11 10 rest (omega arith) s))
     ∙ ap (λ o. choose o (Some (fold g e, rest)) (λ middle. and_then (r.whole middle) (λ y. and_then (behind joint.Colon y.1) (λ last. and_then (conditional_at g r k last) (λ z. Some (g.conditional (fold g e) y.0 z.0, z.1))))))
-        (question_none rest s)
+    (question_none rest s)
 
 pub conditional_taken : {A : Type 0} (g : Algebra A) (n : ℕ) (r : Inner A) → InnerSound g n r → InnerComplete g n r → (k : ℕ) (e : Expr) (rest : List Token) → Fits n e → height e ≤ 11 → Stops 11 rest → length (spell e rest) ≤ k
     → conditional_at g r k (spell e rest) ≡ Some (fold g e, rest)
@@ -176,17 +180,17 @@ conditional_taken g zero r i c k (Conditional first second third) rest f l s m =
 conditional_taken g (suc n) r i c zero (Conditional first second third) rest f l s m = absurd (let t : length rest < length (spell (Conditional first second third) rest) = longer (Conditional first second third) rest in omega arith)
 conditional_taken g (suc n) r i c (suc k) (Conditional first second third) rest f l s m =
     ap (λ o. and_then o (λ x. choose (behind joint.Question x.1) (Some x) (λ middle. and_then (r.whole middle) (λ y. and_then (behind joint.Colon y.1) (λ last. and_then (conditional_at g r k last) (λ z. Some (g.conditional x.0 y.0 z.0, z.1)))))))
-        (level_taken g (suc n) r i c 10 (omega arith) first (token.Mark mark.Question ∷ spell second (token.Mark mark.Colon ∷ spell third rest)) f.0 f.3 (question_stops (spell second (token.Mark mark.Colon ∷ spell third rest))))
+    (level_taken g (suc n) r i c 10 (omega arith) first (token.Mark mark.Question ∷ spell second (token.Mark mark.Colon ∷ spell third rest)) f.0 f.3 (question_stops (spell second (token.Mark mark.Colon ∷ spell third rest))))
     ∙ ap (λ o. choose o (Some (fold g first, token.Mark mark.Question ∷ spell second (token.Mark mark.Colon ∷ spell third rest))) (λ middle. and_then (r.whole middle) (λ y. and_then (behind joint.Colon y.1) (λ last. and_then (conditional_at g r k last) (λ z. Some (g.conditional (fold g first) y.0 z.0, z.1))))))
-        (question_taken (spell second (token.Mark mark.Colon ∷ spell third rest)))
+    (question_taken (spell second (token.Mark mark.Colon ∷ spell third rest)))
     ∙ ap (λ o. and_then o (λ y. and_then (behind joint.Colon y.1) (λ last. and_then (conditional_at g r k last) (λ z. Some (g.conditional (fold g first) y.0 z.0, z.1)))))
-        (c.whole second (token.Mark mark.Colon ∷ spell third rest) f.1 (colon_stops (spell third rest)))
+    (c.whole second (token.Mark mark.Colon ∷ spell third rest) f.1 (colon_stops (spell third rest)))
     ∙ ap (λ o. and_then o (λ last. and_then (conditional_at g r k last) (λ z. Some (g.conditional (fold g first) (fold g second) z.0, z.1)))) (colon_taken (spell third rest))
     ∙ ap (λ o. and_then o (λ z. Some (g.conditional (fold g first) (fold g second) z.0, z.1))) (conditional_taken g (suc n) r i c k third rest f.2 f.4 s fuel)
   where
     fuel : length (spell third rest) ≤ k
     fuel = let t : length (token.Mark mark.Question ∷ spell second (token.Mark mark.Colon ∷ spell third rest)) < length (spell first (token.Mark mark.Question ∷ spell second (token.Mark mark.Colon ∷ spell third rest)))
-            = longer first (token.Mark mark.Question ∷ spell second (token.Mark mark.Colon ∷ spell third rest)) in
+        = longer first (token.Mark mark.Question ∷ spell second (token.Mark mark.Colon ∷ spell third rest)) in
         let u : length (token.Mark mark.Colon ∷ spell third rest) < length (spell second (token.Mark mark.Colon ∷ spell third rest)) = longer second (token.Mark mark.Colon ∷ spell third rest) in omega arith
 
 -- ---- commas
@@ -218,6 +222,7 @@ commas_fuel {A} g n r i (suc j) (suc k) left ts a b = go (λ x u c d. commas_fue
         → and_then p (λ x. commas_at g r j (g.comma left x.0) x.1) ≡ and_then p (λ x. commas_at g r k (g.comma left x.0) x.1)
     after again next l None e = refl
     after again next l (Some x) e = let m : length x.1 < length next = conditional_shorter g n r i (length next) next x e in again (g.comma left x.0) x.1 (omega arith) (omega arith)
+
     go : ((x : A) (us : List Token) → length us ≤ j → length us ≤ k → commas_at g r j x us ≡ commas_at g r k x us) → (o : Option (List Token)) → behind joint.Comma ts ≡ o
         → choose o (Some (left, ts)) (λ next. and_then (conditional_at g r (length next) next) (λ x. commas_at g r j (g.comma left x.0) x.1)) ≡ choose o (Some (left, ts)) (λ next. and_then (conditional_at g r (length next) next) (λ x. commas_at g r k (g.comma left x.0) x.1))
     go again None e = refl

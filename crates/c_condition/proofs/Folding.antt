@@ -132,6 +132,7 @@ infix_sound h ts = go (joint_at ts) (first_sound ts)
   where
     P : BinaryOperator × List Token → Type 0
     P x = (ts ≡ token.Mark (binary_mark x.0) ∷ x.1) × (binary_height x.0 ≡ h)
+
     go : (x : Joint × List Token) → IsFirst ts x → IfSome (picked h x) P
     go (joint.Infix o, rest) e = test (eqb (binary_height o) h) refl
       where
@@ -206,6 +207,7 @@ infix_none h ts s = go (joint_at ts) s
   where
     unequal : (o : BinaryOperator) → h < binary_height o → eqb (binary_height o) h ≡ false
     unequal o q = grind (arith)
+
     go : (x : Joint × List Token) → Quiet h x.0 → picked h x ≡ None
     go (joint.Infix o, rest) q = ap (λ b. cond b (Some (o, rest)) None) (unequal o q)
     go (joint.Question, rest) q = refl

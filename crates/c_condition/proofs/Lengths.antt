@@ -17,6 +17,6 @@ longer (Conditional first second third) rest =
     let t : length rest < length (spell third rest) = longer third rest in
     let s : length (token.Mark mark.Colon ∷ spell third rest) < length (spell second (token.Mark mark.Colon ∷ spell third rest)) = longer second (token.Mark mark.Colon ∷ spell third rest) in
     let f : length (token.Mark mark.Question ∷ spell second (token.Mark mark.Colon ∷ spell third rest)) < length (spell first (token.Mark mark.Question ∷ spell second (token.Mark mark.Colon ∷ spell third rest))) =
-        longer first (token.Mark mark.Question ∷ spell second (token.Mark mark.Colon ∷ spell third rest)) in omega arith
+    longer first (token.Mark mark.Question ∷ spell second (token.Mark mark.Colon ∷ spell third rest)) in omega arith
 longer (Comma left right) rest = let r : length rest < length (spell right rest) = longer right rest in
     let l : length (token.Mark mark.Comma ∷ spell right rest) < length (spell left (token.Mark mark.Comma ∷ spell right rest)) = longer left (token.Mark mark.Comma ∷ spell right rest) in omega arith

@@ -3,3 +3,5 @@ mod Complete
 mod Folding
 mod Lengths
 mod Sound
+mod Steps
+mod Whole

@@ -50,11 +50,21 @@ nested_sound : {A : Type 0} (g : Algebra A) (n : ℕ) (r : Inner A) → InnerSou
 unfolding nested_at
 nested_sound {A} g n r i m opening.Parenthesis e ts = then_some (r.whole ts) _ (Nests g n 12 ts) (Reads g n 0 (token.Mark m ∷ ts)) (i.whole ts)
     (λ x p. then_some (behind joint.Close x.1) _ (λ rest. x.1 ≡ token.Mark mark.Close ∷ rest) (Reads g n 0 (token.Mark m ∷ ts)) (behind_sound joint.Close x.1)
-    (λ rest q. record { tree = Paren p.tree; spelled = ap (λ k. token.Mark k ∷ ts) e ∙ ap (λ t. token.Mark mark.Open ∷ t) (p.spelled ∙ ap (spell p.tree) q);
-        fits = paren_fits n p.tree p.within; low = omega arith; is = ap g.paren p.is }))
+    (λ rest q. record {
+      tree = Paren p.tree;
+      spelled = ap (λ k. token.Mark k ∷ ts) e ∙ ap (λ t. token.Mark mark.Open ∷ t) (p.spelled ∙ ap (spell p.tree) q);
+      fits = paren_fits n p.tree p.within;
+      low = omega arith;
+      is = ap g.paren p.is;
+    }))
 nested_sound {A} g n r i m (opening.Sign o) e ts = then_some (r.operand ts) _ (Nests g n 0 ts) (Reads g n 0 (token.Mark m ∷ ts)) (i.operand ts)
-    (λ x p. record { tree = Unary o p.tree; spelled = ap (λ k. token.Mark k ∷ ts) e ∙ ap (λ t. token.Mark (unary_mark o) ∷ t) p.spelled;
-        fits = unary_fits n o p.tree p.within p.low; low = omega arith; is = ap (g.unary o) p.is })
+    (λ x p. record {
+      tree = Unary o p.tree;
+      spelled = ap (λ k. token.Mark k ∷ ts) e ∙ ap (λ t. token.Mark (unary_mark o) ∷ t) p.spelled;
+      fits = unary_fits n o p.tree p.within p.low;
+      low = omega arith;
+      is = ap (g.unary o) p.is;
+    })
 nested_sound {A} g n r i m opening.Nothing e ts = tt
 
 pub operand_sound : {A : Type 0} (g : Algebra A) (n : ℕ) (r : Inner A) → InnerSound g n r → (ts : List Token) → IfSome (operand_at g r ts) (Reads g n 0 ts)
@@ -74,9 +84,13 @@ links_sound {A} g n h lower i (suc k) all left ts p = chosen_some (infix_at (suc
     (infix_sound (suc h) ts) p
     (λ o q. then_some (lower o.1) _ (Reads g n h o.1) (Reads g n (suc h) all) (i o.1)
     (λ x s. links_sound g n h lower i k all (g.binary o.0 left x.0) x.1
-        (record { tree = Binary o.0 p.tree s.tree; spelled = p.spelled ∙ ap (spell p.tree) (q.0 ∙ ap (λ t. token.Mark (binary_mark o.0) ∷ t) s.spelled);
-            fits = (p.fits, s.fits, (let l = p.low in let b = q.1 in omega arith), (let l = s.low in let b = q.1 in omega arith)); low = (let b = q.1 in omega arith);
-            is = ap (λ l. g.binary o.0 l x.0) p.is ∙ ap (g.binary o.0 (fold g p.tree)) s.is })))
+    (record {
+      tree = Binary o.0 p.tree s.tree;
+      spelled = p.spelled ∙ ap (spell p.tree) (q.0 ∙ ap (λ t. token.Mark (binary_mark o.0) ∷ t) s.spelled);
+      fits = (p.fits, s.fits, (let l = p.low in let b = q.1 in omega arith), (let l = s.low in let b = q.1 in omega arith));
+      low = (let b = q.1 in omega arith);
+      is = ap (λ l. g.binary o.0 l x.0) p.is ∙ ap (g.binary o.0 (fold g p.tree)) s.is;
+    })))
 
 higher : {A : Type 0} (g : Algebra A) (n h k : ℕ) (ts : List Token) (x : A × List Token) → h ≤ k → Reads g n h ts x → Reads g n k ts x
 higher g n h k ts x l p = record { tree = p.tree; spelled = p.spelled; fits = p.fits; low = (let m = p.low in omega arith); is = p.is }
@@ -95,10 +109,13 @@ conditional_sound g n r i (suc k) ts = then_some (level_at g r 10 ts) _ (Reads g
     (λ middle q. then_some (r.whole middle) _ (Nests g n 12 middle) (Reads g n 11 ts) (i.whole middle)
     (λ y s. then_some (behind joint.Colon y.1) _ (λ rest. y.1 ≡ token.Mark mark.Colon ∷ rest) (Reads g n 11 ts) (behind_sound joint.Colon y.1)
     (λ last c. then_some (conditional_at g r k last) _ (Reads g n 11 last) (Reads g n 11 ts) (conditional_sound g n r i k last)
-    (λ z t. record { tree = Conditional p.tree s.tree t.tree;
-        spelled = p.spelled ∙ ap (spell p.tree) (q ∙ ap (λ v. token.Mark mark.Question ∷ v) (s.spelled ∙ ap (spell s.tree) (c ∙ ap (λ v. token.Mark mark.Colon ∷ v) t.spelled)));
-        fits = conditional_fits n p.tree s.tree t.tree p.fits s.within t.fits p.low t.low; low = omega arith;
-        is = ap (λ f. g.conditional f y.0 z.0) p.is ∙ ap (λ m. g.conditional (fold g p.tree) m z.0) s.is ∙ ap (g.conditional (fold g p.tree) (fold g s.tree)) t.is })))))
+    (λ z t. record {
+      tree = Conditional p.tree s.tree t.tree;
+      spelled = p.spelled ∙ ap (spell p.tree) (q ∙ ap (λ v. token.Mark mark.Question ∷ v) (s.spelled ∙ ap (spell s.tree) (c ∙ ap (λ v. token.Mark mark.Colon ∷ v) t.spelled)));
+      fits = conditional_fits n p.tree s.tree t.tree p.fits s.within t.fits p.low t.low;
+      low = omega arith;
+      is = ap (λ f. g.conditional f y.0 z.0) p.is ∙ ap (λ m. g.conditional (fold g p.tree) m z.0) s.is ∙ ap (g.conditional (fold g p.tree) (fold g s.tree)) t.is;
+    })))))
 
 commas_sound : {A : Type 0} (g : Algebra A) (n : ℕ) (r : Inner A) → InnerSound g n r → (k : ℕ) (all : List Token) (left : A) (ts : List Token) → Reads g n 12 all (left, ts) → IfSome (commas_at g r k left ts) (Reads g n 12 all)
 unfolding commas_at
@@ -106,9 +123,13 @@ commas_sound g n r i zero all left ts p = p
 commas_sound g n r i (suc k) all left ts p = chosen_some (behind joint.Comma ts) (Some (left, ts)) _ (λ rest. ts ≡ token.Mark mark.Comma ∷ rest) (Reads g n 12 all) (behind_sound joint.Comma ts) p
     (λ next q. then_some (conditional_at g r (length next) next) _ (Reads g n 11 next) (Reads g n 12 all) (conditional_sound g n r i (length next) next)
     (λ x s. commas_sound g n r i k all (g.comma left x.0) x.1
-        (record { tree = Comma p.tree s.tree; spelled = p.spelled ∙ ap (spell p.tree) (q ∙ ap (λ t. token.Mark mark.Comma ∷ t) s.spelled);
-            fits = (p.fits, s.fits, s.low); low = omega arith;
-            is = ap (λ l. g.comma l x.0) p.is ∙ ap (g.comma (fold g p.tree)) s.is })))
+    (record {
+      tree = Comma p.tree s.tree;
+      spelled = p.spelled ∙ ap (spell p.tree) (q ∙ ap (λ t. token.Mark mark.Comma ∷ t) s.spelled);
+      fits = (p.fits, s.fits, s.low);
+      low = omega arith;
+      is = ap (λ l. g.comma l x.0) p.is ∙ ap (g.comma (fold g p.tree)) s.is;
+    })))
 
 pub whole_sound : {A : Type 0} (g : Algebra A) (n : ℕ) (r : Inner A) → InnerSound g n r → (ts : List Token) → IfSome (whole_at g r ts) (Reads g n 12 ts)
 unfolding whole_at
@@ -123,5 +144,7 @@ pub inner_sound : {A : Type 0} (g : Algebra A) (n : ℕ) → InnerSound g n (inn
 unfolding inner
 inner_sound g zero = record { whole = λ ts. tt; operand = λ ts. tt }
 inner_sound g (suc n) = let i = inner_sound g n in
-    record { whole = λ ts. nesting g n 12 ts (whole_at g (inner g n) ts) (whole_sound g n (inner g n) i ts);
-        operand = λ ts. nesting g n 0 ts (operand_at g (inner g n) ts) (operand_sound g n (inner g n) i ts) }
+    record {
+      whole = λ ts. nesting g n 12 ts (whole_at g (inner g n) ts) (whole_sound g n (inner g n) i ts);
+      operand = λ ts. nesting g n 0 ts (operand_at g (inner g n) ts) (operand_sound g n (inner g n) i ts);
+    }

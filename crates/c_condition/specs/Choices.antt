@@ -2,8 +2,11 @@
 use Rattle.std.specs.Prelude.{Bool, true, false, ◌||◌, Option, Some, None}
 use Rattle.c_condition.specs.declared.outcome.Outcome.{Outcome}
 use Rattle.c_condition.specs.declared.outcome.Outcome.TheVariants.{Without}
-use Rattle.c_condition.specs.declared.condition.Choice.{Choice}
+use Rattle.c_condition.specs.declared.choice.Choice.{Choice}
 use Rattle.c_condition.specs.Values.{is_unsigned, truth, with_type}
+
+abbrev pub no_choice : Choice
+no_choice = record { taken = None; is_unsigned = false }
 
 -- what is taken, or else the last operand
 abbrev pub taken : Option Outcome → Outcome → Outcome

@@ -164,13 +164,7 @@ fn count_of(right: Outcome) -> Option<u32>
                 None
             }
         }
-        Outcome::Unsigned(count) => {
-            if count < 64 {
-                Some(count as u32)
-            } else {
-                None
-            }
-        }
+        Outcome::Unsigned(count) => { if count < 64 { Some(count as u32) } else { None } }
         Outcome::Without { is_unsigned: _ } => None,
     }
 }

@@ -5,13 +5,20 @@
 #![tactic(auto)]
 
 mod arithmetic;
+mod choice;
 mod condition;
+mod laws;
 mod marks;
 mod number;
 mod operators;
 mod outcome;
+mod reader;
 mod token;
 
 pub use condition::condition_value;
+pub use laws::{one_expression, one_value};
 pub use number::Number;
 pub use token::Token;
+
+#[cfg(test)]
+mod tests;
