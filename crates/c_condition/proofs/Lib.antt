@@ -4,4 +4,4 @@ mod Folding
 mod Lengths
 mod Sound
 mod Steps
-mod Whole
+pub mod Whole
