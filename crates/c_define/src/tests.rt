@@ -65,11 +65,15 @@ fn names_are_defined_and_expanded(rt: HostRuntime) -> Result<(), Fail> {
         macros.define(alloc, b"B", second, List::from_vec(written(alloc, b"A")?))?;
     }
     assert_eq!(rt; expanded(alloc, &mut macros, b"A")?.as_str(), "AA,");
-    assert_eq!(rt; expanded(alloc, &mut macros, b"B")?.as_str(), "-");
     assert_eq!(rt; macros.is_same(b"A", &written(alloc, b"B")?), Some(true));
     assert_eq!(rt; macros.is_same(b"A", &written(alloc, b"C")?), Some(false));
+    let mut more: Vec<CSpanned> = Vec::new(alloc);
+    assert!(rt; macros.expand(alloc, b"B", PLACE, &mut more, 4)?);
+    assert_eq!(rt; more.len(), 4);
     macros.undefine(b"A");
     assert_eq!(rt; macros.is_same(b"A", &written(alloc, b"B")?), None);
     assert_eq!(rt; expanded(alloc, &mut macros, b"B")?.as_str(), "AA");
+    more.clear();
+    assert!(rt; !macros.expand(alloc, b"B", PLACE, &mut more, 1)?);
     Ok(())
 }

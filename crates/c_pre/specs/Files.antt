@@ -22,8 +22,8 @@ use Rattle.c_pre.specs.Conditions.{Name, most_tokens}
 use Rattle.jf_base.specs.declared.tag.Tag.{Tag}
 use Rattle.c_lines.specs.Rules.{tag_number}
 use Rattle.c_pre.specs.declared.stop.Broken.{Broken}
-use Rattle.c_pre.specs.declared.expand.PreFault.{PreFault}
-use Rattle.c_pre.specs.declared.expand.PreFault.TheVariants as fault
+use Rattle.c_pre.specs.declared.file.PreFault.{PreFault}
+use Rattle.c_pre.specs.declared.file.PreFault.TheVariants as fault
 use Rattle.c_pre.specs.declared.line.Action.{Action}
 use Rattle.c_text.specs.declared.kind.Lexeme.{Lexeme}
 use Rattle.c_lines.specs.declared.head.Head.{Head}

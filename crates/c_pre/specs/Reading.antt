@@ -83,7 +83,7 @@ opened place arm os = record { place = place; arm = arm } ∷ os
 
 -- an `#if`: its expression is asked where lines are acted on
 abbrev pub if_at : Opens → Place → Read Bool → Read Opens
-if_at os place holds = if is_live os then holds >>= λ b. Ok (opened place (arm_if b) os) else Ok (opened place Past os)
+if_at os place holds = if is_live os then (holds >>= λ b. Ok (opened place (arm_if b) os)) else Ok (opened place Past os)
 
 abbrev pub elif_with : Open → Opens → Place → Option Bool → Read Bool → Read Opens
 elif_with o os place None holds = broken rule.Balance place

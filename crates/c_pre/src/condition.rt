@@ -7,7 +7,7 @@ ghost use Rattle.c_pre.specs.Reads.{Says};
 ghost use Rattle.c_pre.specs.Conditions.{truth, free_step, operand_step, step, without_defined, most_tokens, Put, AllPut, operand_of, condition_value, decided, controls_with, resolved, controls_at, asked, spelled_tokens, form_of, header_with, header_at};
 
 use crate::define::tokens_of;
-use crate::stop::{Stop, broken};
+use crate::stop::{Stop, breaks};
 use c_condition::{Number, Token, condition_value};
 use c_define::{Definitions, copied_token};
 use c_form::put_spelling;
@@ -192,7 +192,7 @@ fn decided(place: Place, value: Option<Number>) -> Result<bool, Stop>
     ensures { Says result (λ b. b) (decided place value) }
 {
     match value {
-        None => Err(broken(Rule::Form, place)),
+        None => Err(breaks(Rule::Form, place)),
         Some(value) => Ok(!value.is_zero()),
     }
 }
@@ -202,7 +202,7 @@ fn controls_with(alloc: Global, macros: &mut Definitions, place: Place, tokens: 
     ensures says { Says result (λ b. b) (controls_with (macros_of macros.old) place (Some tokens.now)) }
 {
     match expand_all(alloc, macros, place, tokens)? {
-        None => Err(broken(Rule::TooMany, place)),
+        None => Err(breaks(Rule::TooMany, place)),
         Some(expanded) => {
             let operands = operands(alloc, &expanded)?;
             decided(place, value(&operands))
@@ -215,7 +215,7 @@ fn resolved(alloc: Global, macros: &mut Definitions, place: Place, tokens: &[CTo
     ensures says { Says result (λ b. b) (resolved (macros_of macros.old) place (Some tokens.now)) }
 {
     match without_defined(alloc, macros, tokens)? {
-        None => Err(broken(Rule::Form, place)),
+        None => Err(breaks(Rule::Form, place)),
         Some(tokens) => controls_with(alloc, macros, place, &tokens),
     }
 }
@@ -227,7 +227,7 @@ pub fn controls(alloc: Global, macros: &mut Definitions, place: Place, tail: &[L
     ensures says { Says result (λ b. b) (controls_at (macros_of macros.old) place tail.now) }
 {
     match tokens_of(alloc, tail)? {
-        None => Err(broken(Rule::Form, place)),
+        None => Err(breaks(Rule::Form, place)),
         Some(tokens) => resolved(alloc, macros, place, &tokens),
     }
 }
@@ -248,7 +248,7 @@ fn file_of(alloc: Global, place: Place, name: &[u8]) -> Result<Asked, Stop>
     ensures { Says result asked (form_of place (Some (Delimiter.Quote, name.now))) }
 {
     match str::from_utf8(name) {
-        Err(_) => Err(broken(Rule::Form, place)),
+        Err(_) => Err(breaks(Rule::Form, place)),
         Ok(name) => Ok(Asked::File(Text::from_text(alloc, name)?)),
     }
 }
@@ -257,7 +257,7 @@ fn form_of(alloc: Global, place: Place, name: Option<(Delimiter, &[u8])>) -> Res
     ensures { Says result asked (form_of place (seen (λ x. (x.0, x.1.now)) name.entry)) }
 {
     match name {
-        None => Err(broken(Rule::Form, place)),
+        None => Err(breaks(Rule::Form, place)),
         Some((Delimiter::Angle, name)) => {
             let name = name.to_vec(alloc)?;
             Ok(Asked::BuiltIn(List::from_vec(name)))
@@ -271,7 +271,7 @@ fn header_with(alloc: Global, macros: &mut Definitions, place: Place, tokens: &[
     ensures says { Says result asked (header_with (macros_of macros.old) place (Some tokens.now)) }
 {
     match expand_all(alloc, macros, place, tokens)? {
-        None => Err(broken(Rule::TooMany, place)),
+        None => Err(breaks(Rule::TooMany, place)),
         Some(expanded) => {
             let text = spelled_tokens(alloc, &expanded)?;
             form_of(alloc, place, header_of(&text))
@@ -289,7 +289,7 @@ pub fn header(alloc: Global, macros: &mut Definitions, place: Place, tail: &[Lex
     match header_of(&text) {
         Some(name) => form_of(alloc, place, Some(name)),
         None => match tokens_of(alloc, tail)? {
-            None => Err(broken(Rule::Form, place)),
+            None => Err(breaks(Rule::Form, place)),
             Some(tokens) => header_with(alloc, macros, place, &tokens),
         },
     }

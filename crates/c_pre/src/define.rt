@@ -7,7 +7,7 @@ ghost use Rattle.c_lines.specs.Heads.{is_name};
 ghost use Rattle.c_pre.specs.Reads.{Says};
 ghost use Rattle.c_pre.specs.Directives.{with_token, tokens_of, written_token, written_of, has_hash, is_open, list_rule, is_macro_name, define_new, define_again, define_over, define_list, define_at, one_name, undefine, undefine_at};
 
-use crate::stop::{Stop, broken};
+use crate::stop::{Stop, breaks};
 use c_define::{Definitions, Written};
 use c_form::token_of;
 use c_lines::{Rule, is_hash, is_paste};
@@ -115,9 +115,9 @@ fn define_over(alloc: Global, macros: &mut Definitions, place: Place, name: &[u8
     let written = written_of(alloc, list)?;
     match macros.is_same(name, &written) {
         Some(true) => Ok(()),
-        Some(false) => Err(broken(Rule::Redefined, place)),
+        Some(false) => Err(breaks(Rule::Redefined, place)),
         None => match tokens_of(alloc, list)? {
-            None => Err(broken(Rule::NoToken, place)),
+            None => Err(breaks(Rule::NoToken, place)),
             Some(body) => {
                 macros.define(alloc, name, body, List::from_vec(written))?;
                 Ok(())
@@ -130,10 +130,10 @@ fn define_list(alloc: Global, macros: &mut Definitions, place: Place, name: &[u8
     ensures { Says result (λ _. macros_of macros.new) (define_list (macros_of macros.old) place name.now list.now (list_rule list.now)) }
 {
     match list_rule(list) {
-        Some(rule) => Err(broken(rule, place)),
+        Some(rule) => Err(breaks(rule, place)),
         None => {
             if has_hash(list) {
-                Err(broken(Rule::Hash, place))
+                Err(breaks(Rule::Hash, place))
             } else {
                 define_over(alloc, macros, place, name, list)
             }
@@ -147,12 +147,12 @@ pub fn define(alloc: Global, macros: &mut Definitions, place: Place, tail: &[Lex
     ensures { Says result (λ _. macros_of macros.new) (define_at (macros_of macros.old) place tail.now) }
 {
     match tail.split_first() {
-        None => Err(broken(Rule::Form, place)),
+        None => Err(breaks(Rule::Form, place)),
         Some((name, list)) => {
             if is_macro_name(name) {
                 define_list(alloc, macros, place, name.spelling.as_slice(), list)
             } else {
-                Err(broken(Rule::Form, place))
+                Err(breaks(Rule::Form, place))
             }
         }
     }
@@ -181,10 +181,10 @@ pub fn undefine(macros: &mut Definitions, place: Place, tail: &[Lexeme]) -> Resu
     ensures { Says result (λ _. macros_of macros.new) (undefine_at (macros_of macros.old) place tail.now) }
 {
     match one_name(tail) {
-        None => Err(broken(Rule::Form, place)),
+        None => Err(breaks(Rule::Form, place)),
         Some(name) => {
             if name == b"defined".as_slice() {
-                Err(broken(Rule::Form, place))
+                Err(breaks(Rule::Form, place))
             } else {
                 macros.undefine(name);
                 Ok(())

@@ -3,7 +3,7 @@
 
 mod condition;
 mod define;
-mod expand;
+mod file;
 mod headers;
 mod line;
 mod opens;
@@ -12,7 +12,7 @@ mod reader;
 mod stop;
 mod work;
 
-pub use expand::{PreFault, expand};
+pub use file::{PreFault, expand};
 
 #[cfg(test)]
 mod tests;

@@ -13,7 +13,7 @@ use crate::condition::controls;
 use crate::define::one_name;
 use crate::opens::{Arm, Open, arm_if, elif_of, end, is_live, is_outer_live, turn};
 use crate::origin::{Origin, hash_place, place_of};
-use crate::stop::{Stop, broken};
+use crate::stop::{Stop, breaks};
 use crate::work::{Pre, text};
 use c_define::Definitions;
 use c_lines::{Head, Rule, first_ill, head_at};
@@ -46,7 +46,7 @@ fn name_holds(macros: &Definitions, wanted: bool, place: Place, tail: &[Lexeme])
     ensures { Says result (λ b. b) (name_holds (macros_of macros.now) wanted place (one_name tail.now)) }
 {
     match one_name(tail) {
-        None => Err(broken(Rule::Form, place)),
+        None => Err(breaks(Rule::Form, place)),
         Some(name) => {
             let is_macro = macros.is_macro(name);
             if wanted { Ok(is_macro) } else { Ok(!is_macro) }
@@ -79,9 +79,9 @@ fn elif_line(alloc: Global, macros: &mut Definitions, opens: &mut Vec<Open>, pla
     ensures says { Says result (λ _. reverse opens.new.items) (elif_at (reverse opens.old.items) place (controls_at (macros_of macros.old) place tail.now)) }
 {
     match opens.pop() {
-        None => Err(broken(Rule::Balance, place)),
+        None => Err(breaks(Rule::Balance, place)),
         Some(open) => match elif_of(open.arm) {
-            None => Err(broken(Rule::Balance, place)),
+            None => Err(breaks(Rule::Balance, place)),
             Some(false) => {
                 opens.push(Open {
                     place: open.place,
@@ -108,7 +108,7 @@ fn else_line(opens: &mut Vec<Open>, place: Place, tail: &[Lexeme]) -> Result<(),
     ensures { Says result (λ _. reverse opens.new.items) (no_tail (reverse opens.old.items) place tail.now (else_at (reverse opens.old.items) place)) }
 {
     if is_outer_live(opens) && !tail.is_empty() {
-        Err(broken(Rule::Form, place))
+        Err(breaks(Rule::Form, place))
     } else {
         turn(opens, place)
     }
@@ -118,7 +118,7 @@ fn endif_line(opens: &mut Vec<Open>, place: Place, tail: &[Lexeme]) -> Result<()
     ensures { Says result (λ _. reverse opens.new.items) (no_tail (reverse opens.old.items) place tail.now (endif_at (reverse opens.old.items) place)) }
 {
     if is_outer_live(opens) && !tail.is_empty() {
-        Err(broken(Rule::Form, place))
+        Err(breaks(Rule::Form, place))
     } else {
         end(opens, place)
     }
@@ -151,6 +151,7 @@ fn turn_at(alloc: Global, macros: &mut Definitions, opens: &mut Vec<Open>, head:
 }
 
 /// A directive that is to be acted on: which it is, where it stands, and what stands behind its name.
+#[derive(Clone, Copy, Debug)]
 pub struct Action<'a> {
     pub head: Head,
     pub place: Place,
@@ -188,7 +189,7 @@ pub fn sort<'a>(alloc: Global, pre: &mut Pre, opens: &mut Vec<Open>, limit: usiz
         };
     }
     match first_ill(row) {
-        Some(fault) => Err(broken(fault.rule, place_of(origin, fault.point))),
+        Some(fault) => Err(breaks(fault.rule, place_of(origin, fault.point))),
         None => {
             if head == Head::Text {
                 Ok(None)

@@ -4,7 +4,7 @@ ghost use Rattle.std.specs.Prelude.{◌≡◌, reverse};
 ghost use Rattle.c_pre.specs.Reads.{Says};
 ghost use Rattle.c_pre.specs.Reading.{is_taken, is_live, is_outer_live, arm_if, elif_of, else_of, else_at, endif_at, first_place};
 
-use crate::stop::{Stop, broken};
+use crate::stop::{Stop, breaks};
 use c_lines::Rule;
 use jf_base::Place;
 
@@ -92,9 +92,9 @@ pub fn turn(opens: &mut Vec<Open>, place: Place) -> Result<(), Stop>
     ensures { Says result (λ _. reverse opens.new.items) (else_at (reverse opens.old.items) place) }
 {
     match opens.pop() {
-        None => Err(broken(Rule::Balance, place)),
+        None => Err(breaks(Rule::Balance, place)),
         Some(open) => match else_of(open.arm) {
-            None => Err(broken(Rule::Balance, place)),
+            None => Err(breaks(Rule::Balance, place)),
             Some(arm) => {
                 opens.push(Open {
                     place: open.place,
@@ -111,7 +111,7 @@ pub fn end(opens: &mut Vec<Open>, place: Place) -> Result<(), Stop>
     ensures { Says result (λ _. reverse opens.new.items) (endif_at (reverse opens.old.items) place) }
 {
     match opens.pop() {
-        None => Err(broken(Rule::Balance, place)),
+        None => Err(breaks(Rule::Balance, place)),
         Some(_) => Ok(()),
     }
 }

@@ -12,7 +12,7 @@ use crate::headers::header_text;
 use crate::line::{Action, sort};
 use crate::opens::{Open, first_open};
 use crate::origin::{Origin, place_of};
-use crate::stop::{Stop, broken};
+use crate::stop::{Stop, breaks};
 use crate::work::Pre;
 use c_lines::{Head, Rule, row_at};
 use c_text::{Lexeme, Point, lexemes};
@@ -50,8 +50,8 @@ fn act<L: Library>(alloc: Global, library: &mut L, reading: Reading, pre: &mut P
         },
         Head::Define => define(alloc, &mut pre.macros, place, action.tail),
         Head::Undef => undefine(&mut pre.macros, place, action.tail),
-        Head::Error => Err(broken(Rule::Error, place)),
-        Head::Unknown => Err(broken(Rule::Form, place)),
+        Head::Error => Err(breaks(Rule::Error, place)),
+        Head::Unknown => Err(breaks(Rule::Form, place)),
         _ => Ok(()),
     }
 }
@@ -68,7 +68,7 @@ fn include<L: Library>(alloc: Global, library: &mut L, reading: Reading, pre: &m
         Gives result (λ k. state_of k pre.new) (λ k. include_at files reading.limit reading.depth (state_of k pre.old) (asked name.now) place) }
 {
     if reading.depth == 0 {
-        return Err(broken(Rule::Header, place));
+        return Err(breaks(Rule::Header, place));
     }
     let inner = Reading {
         limit: reading.limit,
@@ -77,7 +77,7 @@ fn include<L: Library>(alloc: Global, library: &mut L, reading: Reading, pre: &m
     };
     match name {
         Asked::BuiltIn(name) => match header_text(name.as_slice()) {
-            None => Err(broken(Rule::Header, place)),
+            None => Err(breaks(Rule::Header, place)),
             Some(bytes) => read(alloc, library, inner, pre, bytes),
         },
         Asked::File(name) => {
@@ -122,7 +122,7 @@ pub fn read<L: Library>(alloc: Global, library: &mut L, reading: Reading, pre: &
 {
     if bytes.len() > MOST_BYTES {
         let first = Point { line: 1, column: 1 };
-        return Err(broken(Rule::TooMany, place_of(reading.origin, first)));
+        return Err(breaks(Rule::TooMany, place_of(reading.origin, first)));
     }
     let lexemes = lexemes(alloc, bytes)?;
     let mut opens = Vec::new(alloc);
@@ -136,6 +136,6 @@ pub fn read<L: Library>(alloc: Global, library: &mut L, reading: Reading, pre: &
     }
     match first_open(&opens) {
         None => Ok(()),
-        Some(place) => Err(broken(Rule::Balance, place)),
+        Some(place) => Err(breaks(Rule::Balance, place)),
     }
 }

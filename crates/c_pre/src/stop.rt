@@ -39,7 +39,7 @@ impl<T: Drop> From<AllocFailed<T>> for Stop {
 }
 
 /// A rule is broken there.
-pub fn broken(rule: Rule, place: Place) -> Stop
+pub fn breaks(rule: Rule, place: Place) -> Stop
     ensures { result ≡ Stop.At (record { place = place; rule = rule }) }
 {
     Stop::At(Broken { place, rule })

@@ -7,7 +7,7 @@ ghost use Rattle.c_pre.specs.Texts.{put_name, put_token, put_lexeme, text_at};
 ghost use Rattle.c_pre.specs.Files.{work_of};
 
 use crate::origin::{Origin, place_of};
-use crate::stop::{Stop, broken};
+use crate::stop::{Stop, breaks};
 use c_define::Definitions;
 use c_form::token_of;
 use c_lines::{Rule, is_hash, is_paste};
@@ -32,7 +32,7 @@ fn put_name(alloc: Global, pre: &mut Pre, limit: usize, place: Place, name: &[u8
     match pre.macros.expand(alloc, name, place, &mut pre.out, limit) {
         Err(_) => Err(Stop::Memory),
         Ok(true) => Ok(()),
-        Ok(false) => Err(broken(Rule::TooMany, place)),
+        Ok(false) => Err(breaks(Rule::TooMany, place)),
     }
 }
 
@@ -44,10 +44,10 @@ fn put_token(alloc: Global, pre: &mut Pre, limit: usize, place: Place, lexeme: &
 {
     match token_of(alloc, lexeme) {
         Err(_) => Err(Stop::Memory),
-        Ok(None) => Err(broken(Rule::NoToken, place)),
+        Ok(None) => Err(breaks(Rule::NoToken, place)),
         Ok(Some(token)) => {
             if pre.out.len() >= limit {
-                return Err(broken(Rule::TooMany, place));
+                return Err(breaks(Rule::TooMany, place));
             }
             pre.out.push(CSpanned { token, place })?;
             Ok(())
@@ -63,12 +63,12 @@ fn put_lexeme(alloc: Global, pre: &mut Pre, limit: usize, origin: Origin, lexeme
 {
     let place = place_of(origin, lexeme.point);
     match lexeme.kind {
-        Kind::ForeignByte => Err(broken(Rule::ForeignByte, place)),
-        Kind::OpenText => Err(broken(Rule::OpenText, place)),
+        Kind::ForeignByte => Err(breaks(Rule::ForeignByte, place)),
+        Kind::OpenText => Err(breaks(Rule::OpenText, place)),
         Kind::Name => put_name(alloc, pre, limit, place, lexeme.spelling.as_slice()),
         _ => {
             if is_hash(lexeme) || is_paste(lexeme) {
-                Err(broken(Rule::Hash, place))
+                Err(breaks(Rule::Hash, place))
             } else {
                 put_token(alloc, pre, limit, place, lexeme)
             }
