@@ -58,8 +58,9 @@ module _ (limit : ℕ) (origin : Origin) (w : Work) (l : Lexeme) where
   unfolding put_lexeme
   lexeme_other a b c = pick l.kind refl
     where
-      abbrev rest : Read Work
+      rest : Read Work
       rest = cond (is_hash l || is_paste l) (broken rule.Hash (place_of origin l.point)) (put_token limit (place_of origin l.point) w (token_of l.kind l.spelling))
+
       pick : (k : Kind) → l.kind ≡ k → put_kept limit (place_of origin l.point) w l (broken_by l.kind) ≡ rest
       pick kind.ForeignByte e = absurd (a e)
       pick kind.OpenText e = absurd (b e)

@@ -1,6 +1,10 @@
 -- Directives' tokens.
 use Rattle.std.proofs.Common.{◌≡◌, ℕ, ◌+◌, ◌<◌, ◌≤◌, Bool, true, false, cond, List, [], ◌∷◌, ◌++◌, map, length, length-append, Option, Some, None, Result, Ok, Err, refl, sym, ap, ◌∙◌, arith, subst, append_assoc}
-use Rattle.std.proofs.lemmas.List.{append-nil, map-append, length-map}
+use Rattle.std.proofs.Common.{reverse}
+use Rattle.std.specs.Prelude.{slice_get}
+use Rattle.std.proofs.lemmas.List.{append-nil, map-append, length-map, reverse-append}
+use Rattle.c_pre.specs.declared.opens.Open.{Open}
+use Rattle.c_pre.specs.Reading.{first_place}
 use Rattle.std.specs.Str.{is_utf8, IsUtf8}
 use Rattle.std.proofs.lemmas.Str.{is_utf8-from_IsUtf8, IsUtf8-from_is_utf8}
 use Rattle.jf_base.specs.declared.place.Place.{Place}
@@ -14,19 +18,20 @@ use Rattle.c_define.specs.Definitions.{Macros}
 use Rattle.c_define.specs.Expansion.{seen, expansion, all_at}
 use Rattle.c_pre.specs.declared.condition.Expected.{Expected}
 use Rattle.c_pre.specs.declared.condition.Expected.TheVariants as expected
+use Rattle.c_condition.specs.Reading.{and_then}
 use Rattle.c_pre.specs.Reads.{Read, broken}
 use Rattle.c_pre.specs.Directives.{with_token, tokens_of}
-use Rattle.c_pre.specs.Conditions.{Name, form_of, step, Step, with_given, at_end, without_defined, and_then, all_expanded, most_tokens, Put, spelled_tokens}
+use Rattle.c_pre.specs.Conditions.{Name, form_of, step, Step, with_given, at_end, without_defined, all_expanded, most_tokens, Put, spelled_tokens}
 
 pub file_refused : (place : Place) (name : List ℕ) → (IsUtf8 name → ⊥) → form_of place (Some (Quote, name)) ≡ broken rule.Form place
 file_refused place name n = pick (is_utf8 name) refl
   where
-    pick : (b : Bool) → is_utf8 name ≡ b → cond b (Ok (Quote, name)) (broken rule.Form place) ≡ broken rule.Form place
+    pick : (b : Bool) → is_utf8 name ≡ b → cond {A = Read Name} b (Ok (Quote, name)) (broken rule.Form place) ≡ broken rule.Form place
     pick false e = refl
     pick true e = absurd (n (IsUtf8-from_is_utf8 name e))
 
 pub file_taken : (place : Place) (name : List ℕ) → IsUtf8 name → form_of place (Some (Quote, name)) ≡ Ok (Quote, name)
-file_taken place name u = ap (λ b. cond b (Ok (Quote, name)) (broken rule.Form place)) (is_utf8-from_IsUtf8 name u)
+file_taken place name u = ap (λ b. cond {A = Read Name} b (Ok (Quote, name)) (broken rule.Form place)) (is_utf8-from_IsUtf8 name u)
 
 -- ---- lists of tokens
 
@@ -93,3 +98,14 @@ module _ (ms : Macros) where
   unfolding all_expanded
   expanded_end place out [] e = append-nil out
   expanded_end place out (t ∷ ts) e = absurd (omega (arith, e))
+
+-- ---- conditionals
+
+first_last : (os : List Open) (o : Open) → first_place (os ++ o ∷ []) ≡ Some o.place
+first_last [] o = refl
+first_last (p ∷ []) o = refl
+first_last (p ∷ q ∷ os) o = first_last (q ∷ os) o
+
+pub first_opened : (os : List Open) (o : Open) → slice_get os 0 ≡ Some o → first_place (reverse os) ≡ Some o.place
+first_opened [] o e = cc
+first_opened (p ∷ os) o e = let same : p ≡ o = cc in ap first_place (reverse-append (p ∷ []) os) ∙ first_last (reverse os) p ∙ ap (λ (o : Open). Some o.place) same

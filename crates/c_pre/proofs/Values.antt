@@ -35,6 +35,7 @@ value_is ts v c = pick (constant_at values ts) refl
     inner : (x : Outcome) → MatchOption (value_of x) (ControlsNothing ts) (Controls ts) → (o : Option Value) → value_of x ≡ o → MatchOption o (ControlsNothing ts) (Controls ts) → o ≡ Some v
     inner x m None e h = absurd (h v c)
     inner x m (Some w) e h = ap Some (one_value ts w v h c)
+
     pick : (o : Option Outcome) → constant_at values ts ≡ o → and_then o value_of ≡ Some v
     pick None e = absurd (no_expression ts e v c)
     pick (Some x) e = inner x (outcome_read ts x e) (value_of x) refl (outcome_read ts x e)
@@ -46,6 +47,7 @@ value_isnt ts n = pick (constant_at values ts) refl
     inner : (o : Option Value) → MatchOption o (ControlsNothing ts) (Controls ts) → o ≡ None
     inner None h = refl
     inner (Some w) h = absurd (n w h)
+
     pick : (o : Option Outcome) → constant_at values ts ≡ o → and_then o value_of ≡ None
     pick None e = refl
     pick (Some x) e = inner (value_of x) (outcome_read ts x e)

@@ -41,12 +41,19 @@ pub enum Asked {
 fn truth(alloc: Global, value: bool) -> Result<CToken, AllocError>
     ensures { IfOk result (λ t. t ≡ truth value) }
 {
-    let digit = if value { b"1".to_vec(alloc)? } else { b"0".to_vec(alloc)? };
+    let digit = if value {
+        b"1".to_vec(alloc)?
+    } else {
+        b"0".to_vec(alloc)?
+    };
     Ok(CToken::Number(List::from_vec(digit)))
 }
 
 // A token where anything may stand.
-fn free_step(alloc: Global, token: &CToken) -> Result<Option<(Expected, Option<CToken>)>, AllocError>
+fn free_step(
+    alloc: Global,
+    token: &CToken,
+) -> Result<Option<(Expected, Option<CToken>)>, AllocError>
     ensures { IfOk result (λ r. r ≡ free_step token.now) }
 {
     match token {
@@ -61,7 +68,11 @@ fn free_step(alloc: Global, token: &CToken) -> Result<Option<(Expected, Option<C
 }
 
 // A token behind `defined`.
-fn operand_step(alloc: Global, macros: &Definitions, token: &CToken) -> Result<Option<(Expected, Option<CToken>)>, AllocError>
+fn operand_step(
+    alloc: Global,
+    macros: &Definitions,
+    token: &CToken,
+) -> Result<Option<(Expected, Option<CToken>)>, AllocError>
     ensures { IfOk result (λ r. r ≡ operand_step (macros_of macros.now) token.now) }
 {
     match token {
@@ -76,7 +87,12 @@ fn operand_step(alloc: Global, macros: &Definitions, token: &CToken) -> Result<O
 
 // What a token of an expression is taken for, and what may stand behind it.
 #[tactic(auto, unfolding(crate::specs::Conditions::step))]
-fn step(alloc: Global, macros: &Definitions, expected: Expected, token: &CToken) -> Result<Option<(Expected, Option<CToken>)>, AllocError>
+fn step(
+    alloc: Global,
+    macros: &Definitions,
+    expected: Expected,
+    token: &CToken,
+) -> Result<Option<(Expected, Option<CToken>)>, AllocError>
     ensures { IfOk result (λ r. r ≡ step (macros_of macros.now) expected token.now) }
 {
     match expected {
@@ -94,7 +110,11 @@ fn step(alloc: Global, macros: &Definitions, expected: Expected, token: &CToken)
 }
 
 // The tokens with 1 or 0 in place of each `defined`.
-fn without_defined(alloc: Global, macros: &Definitions, tokens: &[CToken]) -> Result<Option<Vec<CToken>>, AllocError>
+fn without_defined(
+    alloc: Global,
+    macros: &Definitions,
+    tokens: &[CToken],
+) -> Result<Option<Vec<CToken>>, AllocError>
     ensures { IfOk result (λ r. without_defined (macros_of macros.now) Expected.Any tokens.now ≡ seen (λ v. v.items) r) }
 {
     let mut out = Vec::new(alloc);
@@ -112,11 +132,21 @@ fn without_defined(alloc: Global, macros: &Definitions, tokens: &[CToken]) -> Re
             }
         }
     }
-    if expected == Expected::Any { Ok(Some(out)) } else { Ok(None) }
+    if expected == Expected::Any {
+        Ok(Some(out))
+    } else {
+        Ok(None)
+    }
 }
 
 // Puts out what a token expands to, or answers false where there is no room.
-fn put_expanded(alloc: Global, macros: &mut Definitions, place: Place, token: &CToken, out: &mut Vec<CSpanned>) -> Result<bool, AllocError>
+fn put_expanded(
+    alloc: Global,
+    macros: &mut Definitions,
+    place: Place,
+    token: &CToken,
+    out: &mut Vec<CSpanned>,
+) -> Result<bool, AllocError>
     requires { length out.old.items ≤ most_tokens }
     ensures same { IfOk result (λ fits. IsTrue fits → macros.new ≡ macros.old) }
     ensures tokens { IfOk result (λ fits. Put fits (macros_of macros.old) place token.now out.old.items out.new.items) }
@@ -135,7 +165,12 @@ fn put_expanded(alloc: Global, macros: &mut Definitions, place: Place, token: &C
 }
 
 // What all tokens expand to; none where that is too much.
-fn expand_all(alloc: Global, macros: &mut Definitions, place: Place, tokens: &[CToken]) -> Result<Option<Vec<CSpanned>>, AllocError>
+fn expand_all(
+    alloc: Global,
+    macros: &mut Definitions,
+    place: Place,
+    tokens: &[CToken],
+) -> Result<Option<Vec<CSpanned>>, AllocError>
     ensures same { IfOk result (λ r. IsSome r → macros.new ≡ macros.old) }
     ensures tokens { IfOk result (λ r. AllPut r (macros_of macros.old) place tokens.now) }
 {
@@ -197,7 +232,12 @@ fn decided(place: Place, value: Option<Number>) -> Result<bool, Stop>
     }
 }
 
-fn controls_with(alloc: Global, macros: &mut Definitions, place: Place, tokens: &[CToken]) -> Result<bool, Stop>
+fn controls_with(
+    alloc: Global,
+    macros: &mut Definitions,
+    place: Place,
+    tokens: &[CToken],
+) -> Result<bool, Stop>
     ensures same { OnOk result (macros.new ≡ macros.old) }
     ensures says { Says result (λ b. b) (controls_with (macros_of macros.old) place (Some tokens.now)) }
 {
@@ -210,7 +250,12 @@ fn controls_with(alloc: Global, macros: &mut Definitions, place: Place, tokens: 
     }
 }
 
-fn resolved(alloc: Global, macros: &mut Definitions, place: Place, tokens: &[CToken]) -> Result<bool, Stop>
+fn resolved(
+    alloc: Global,
+    macros: &mut Definitions,
+    place: Place,
+    tokens: &[CToken],
+) -> Result<bool, Stop>
     ensures same { OnOk result (macros.new ≡ macros.old) }
     ensures says { Says result (λ b. b) (resolved (macros_of macros.old) place (Some tokens.now)) }
 {
@@ -222,7 +267,12 @@ fn resolved(alloc: Global, macros: &mut Definitions, place: Place, tokens: &[CTo
 
 /// Whether the group behind an `#if` or `#elif` is taken (ISO/IEC 9899:2011, 6.10.1).
 #[tactic(auto, unfolding(crate::specs::Conditions::controls_at))]
-pub fn controls(alloc: Global, macros: &mut Definitions, place: Place, tail: &[Lexeme]) -> Result<bool, Stop>
+pub fn controls(
+    alloc: Global,
+    macros: &mut Definitions,
+    place: Place,
+    tail: &[Lexeme],
+) -> Result<bool, Stop>
     ensures same { OnOk result (macros.new ≡ macros.old) }
     ensures says { Says result (λ b. b) (controls_at (macros_of macros.old) place tail.now) }
 {
@@ -266,7 +316,12 @@ fn form_of(alloc: Global, place: Place, name: Option<(Delimiter, &[u8])>) -> Res
     }
 }
 
-fn header_with(alloc: Global, macros: &mut Definitions, place: Place, tokens: &[CToken]) -> Result<Asked, Stop>
+fn header_with(
+    alloc: Global,
+    macros: &mut Definitions,
+    place: Place,
+    tokens: &[CToken],
+) -> Result<Asked, Stop>
     ensures same { OnOk result (macros.new ≡ macros.old) }
     ensures says { Says result asked (header_with (macros_of macros.old) place (Some tokens.now)) }
 {
@@ -281,7 +336,12 @@ fn header_with(alloc: Global, macros: &mut Definitions, place: Place, tokens: &[
 
 /// The header that an `#include` names: as it is written, or behind macro replacement (ISO/IEC 9899:2011, 6.10.2).
 #[tactic(auto, unfolding(crate::specs::Conditions::header_at))]
-pub fn header(alloc: Global, macros: &mut Definitions, place: Place, tail: &[Lexeme]) -> Result<Asked, Stop>
+pub fn header(
+    alloc: Global,
+    macros: &mut Definitions,
+    place: Place,
+    tail: &[Lexeme],
+) -> Result<Asked, Stop>
     ensures same { OnOk result (macros.new ≡ macros.old) }
     ensures says { Says result asked (header_at (macros_of macros.old) place tail.now) }
 {

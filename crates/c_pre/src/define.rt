@@ -109,7 +109,13 @@ fn is_macro_name(lexeme: &Lexeme) -> bool
 }
 
 // A name that is a macro, or is none.
-fn define_over(alloc: Global, macros: &mut Definitions, place: Place, name: &[u8], list: &[Lexeme]) -> Result<(), Stop>
+fn define_over(
+    alloc: Global,
+    macros: &mut Definitions,
+    place: Place,
+    name: &[u8],
+    list: &[Lexeme],
+) -> Result<(), Stop>
     ensures { Says result (λ _. macros_of macros.new) (define_over (macros_of macros.old) place name.now list.now ((macros_of macros.old).of name.now)) }
 {
     let written = written_of(alloc, list)?;
@@ -126,7 +132,13 @@ fn define_over(alloc: Global, macros: &mut Definitions, place: Place, name: &[u8
     }
 }
 
-fn define_list(alloc: Global, macros: &mut Definitions, place: Place, name: &[u8], list: &[Lexeme]) -> Result<(), Stop>
+fn define_list(
+    alloc: Global,
+    macros: &mut Definitions,
+    place: Place,
+    name: &[u8],
+    list: &[Lexeme],
+) -> Result<(), Stop>
     ensures { Says result (λ _. macros_of macros.new) (define_list (macros_of macros.old) place name.now list.now (list_rule list.now)) }
 {
     match list_rule(list) {
@@ -143,7 +155,12 @@ fn define_list(alloc: Global, macros: &mut Definitions, place: Place, name: &[u8
 
 /// A `#define`.
 #[tactic(auto, unfolding(crate::specs::Directives::define_at))]
-pub fn define(alloc: Global, macros: &mut Definitions, place: Place, tail: &[Lexeme]) -> Result<(), Stop>
+pub fn define(
+    alloc: Global,
+    macros: &mut Definitions,
+    place: Place,
+    tail: &[Lexeme],
+) -> Result<(), Stop>
     ensures { Says result (λ _. macros_of macros.new) (define_at (macros_of macros.old) place tail.now) }
 {
     match tail.split_first() {

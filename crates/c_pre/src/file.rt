@@ -46,7 +46,14 @@ fn fault_of(stop: Stop) -> PreFault
 /// `file` is the number of the file, and `before` how many tokens the files before have; its name isn't asked, since an `#include` reads from the library
 /// by its own name. What a macro or an included text gives has the place of the macro's name or of the `#include` in this file. It takes time in proportion
 /// to the text and to what it expands to.
-pub fn expand<L: Library>(alloc: Global, file: u16, before: u32, _name: &str, bytes: &[u8], library: &mut L) -> Result<Vec<CSpanned>, PreFault>
+pub fn expand<L: Library>(
+    alloc: Global,
+    file: u16,
+    before: u32,
+    _name: &str,
+    bytes: &[u8],
+    library: &mut L,
+) -> Result<Vec<CSpanned>, PreFault>
     requires { before ≤ 262144 }
     ensures files { L.files library.new ≡ L.files library.old }
     ensures cause { FaultCounts result (L.faults library.old) (L.faults library.new) }

@@ -21,7 +21,13 @@ use c_text::Lexeme;
 use jf_base::Place;
 use std::alloc::Global;
 
-fn if_line(alloc: Global, macros: &mut Definitions, opens: &mut Vec<Open>, place: Place, tail: &[Lexeme]) -> Result<(), Stop>
+fn if_line(
+    alloc: Global,
+    macros: &mut Definitions,
+    opens: &mut Vec<Open>,
+    place: Place,
+    tail: &[Lexeme],
+) -> Result<(), Stop>
     ensures same { OnOk result (macros.new ≡ macros.old) }
     ensures says { Says result (λ _. reverse opens.new.items) (if_at (reverse opens.old.items) place (controls_at (macros_of macros.old) place tail.now)) }
 {
@@ -42,7 +48,12 @@ fn if_line(alloc: Global, macros: &mut Definitions, opens: &mut Vec<Open>, place
     }
 }
 
-fn name_holds(macros: &Definitions, wanted: bool, place: Place, tail: &[Lexeme]) -> Result<bool, Stop>
+fn name_holds(
+    macros: &Definitions,
+    wanted: bool,
+    place: Place,
+    tail: &[Lexeme],
+) -> Result<bool, Stop>
     ensures { Says result (λ b. b) (name_holds (macros_of macros.now) wanted place (one_name tail.now)) }
 {
     match one_name(tail) {
@@ -54,7 +65,13 @@ fn name_holds(macros: &Definitions, wanted: bool, place: Place, tail: &[Lexeme])
     }
 }
 
-fn ifdef_line(macros: &Definitions, opens: &mut Vec<Open>, wanted: bool, place: Place, tail: &[Lexeme]) -> Result<(), Stop>
+fn ifdef_line(
+    macros: &Definitions,
+    opens: &mut Vec<Open>,
+    wanted: bool,
+    place: Place,
+    tail: &[Lexeme],
+) -> Result<(), Stop>
     ensures { Says result (λ _. reverse opens.new.items) (if_at (reverse opens.old.items) place (name_holds (macros_of macros.now) wanted place (one_name tail.now))) }
 {
     if !is_live(opens) {
@@ -74,7 +91,13 @@ fn ifdef_line(macros: &Definitions, opens: &mut Vec<Open>, wanted: bool, place: 
     }
 }
 
-fn elif_line(alloc: Global, macros: &mut Definitions, opens: &mut Vec<Open>, place: Place, tail: &[Lexeme]) -> Result<(), Stop>
+fn elif_line(
+    alloc: Global,
+    macros: &mut Definitions,
+    opens: &mut Vec<Open>,
+    place: Place,
+    tail: &[Lexeme],
+) -> Result<(), Stop>
     ensures same { OnOk result (macros.new ≡ macros.old) }
     ensures says { Says result (λ _. reverse opens.new.items) (elif_at (reverse opens.old.items) place (controls_at (macros_of macros.old) place tail.now)) }
 {
@@ -135,7 +158,14 @@ fn is_conditional(head: Head) -> bool
 
 // What a conditional opens, turns or ends.
 #[tactic(auto, unfolding(crate::specs::Reading::turn_at))]
-fn turn_at(alloc: Global, macros: &mut Definitions, opens: &mut Vec<Open>, head: Head, place: Place, tail: &[Lexeme]) -> Result<(), Stop>
+fn turn_at(
+    alloc: Global,
+    macros: &mut Definitions,
+    opens: &mut Vec<Open>,
+    head: Head,
+    place: Place,
+    tail: &[Lexeme],
+) -> Result<(), Stop>
     ensures same { OnOk result (macros.new ≡ macros.old) }
     ensures says { Says result (λ _. reverse opens.new.items) (turn_at head (macros_of macros.old) (reverse opens.old.items) place tail.now) }
 {
@@ -159,7 +189,14 @@ pub struct Action<'a> {
 }
 
 // A directive: a conditional is done here, and another is to be acted on where lines are.
-fn directive<'a>(alloc: Global, pre: &mut Pre, opens: &mut Vec<Open>, head: Head, place: Place, tail: &'a [Lexeme]) -> Result<Option<Action<'a>>, Stop>
+fn directive<'a>(
+    alloc: Global,
+    pre: &mut Pre,
+    opens: &mut Vec<Open>,
+    head: Head,
+    place: Place,
+    tail: &'a [Lexeme],
+) -> Result<Option<Action<'a>>, Stop>
     ensures room { OnOk result (pre.new.out ≡ pre.old.out) }
     ensures sorts { (k : ℕ) (including : Including) → SortsDirective result k pre.old pre.new (reverse opens.old.items) (reverse opens.new.items) including head place tail.now }
 {
@@ -176,7 +213,14 @@ fn directive<'a>(alloc: Global, pre: &mut Pre, opens: &mut Vec<Open>, head: Head
 }
 
 /// What a line does to the conditionals and as text, and what is still to be acted on.
-pub fn sort<'a>(alloc: Global, pre: &mut Pre, opens: &mut Vec<Open>, limit: usize, origin: Origin, row: &'a [Lexeme]) -> Result<Option<Action<'a>>, Stop>
+pub fn sort<'a>(
+    alloc: Global,
+    pre: &mut Pre,
+    opens: &mut Vec<Open>,
+    limit: usize,
+    origin: Origin,
+    row: &'a [Lexeme],
+) -> Result<Option<Action<'a>>, Stop>
     requires { length pre.old.out.items ≤ limit }
     ensures room { OnOk result (length pre.new.out.items ≤ limit) }
     ensures sorts { (k : ℕ) (including : Including) → Sorts result k pre.old pre.new (reverse opens.old.items) (reverse opens.new.items) including limit origin row.now }

@@ -33,7 +33,13 @@ pub struct Reading {
 
 // Does what a directive says that is no conditional.
 #[cycle(reader)]
-fn act<L: Library>(alloc: Global, library: &mut L, reading: Reading, pre: &mut Pre, action: &Action) -> Result<(), Stop>
+fn act<L: Library>(
+    alloc: Global,
+    library: &mut L,
+    reading: Reading,
+    pre: &mut Pre,
+    action: &Action,
+) -> Result<(), Stop>
     requires { length pre.old.out.items ≤ reading.limit }
     ensures room { OnOk result (length pre.new.out.items ≤ reading.limit) }
     ensures files { L.files library.new ≡ L.files library.old }
@@ -58,7 +64,14 @@ fn act<L: Library>(alloc: Global, library: &mut L, reading: Reading, pre: &mut P
 
 // The text of a header.
 #[cycle(reader)]
-fn include<L: Library>(alloc: Global, library: &mut L, reading: Reading, pre: &mut Pre, name: &Asked, place: Place) -> Result<(), Stop>
+fn include<L: Library>(
+    alloc: Global,
+    library: &mut L,
+    reading: Reading,
+    pre: &mut Pre,
+    name: &Asked,
+    place: Place,
+) -> Result<(), Stop>
     requires { length pre.old.out.items ≤ reading.limit }
     ensures room { OnOk result (length pre.new.out.items ≤ reading.limit) }
     ensures files { L.files library.new ≡ L.files library.old }
@@ -93,7 +106,14 @@ fn include<L: Library>(alloc: Global, library: &mut L, reading: Reading, pre: &m
 
 // A line.
 #[cycle(reader)]
-fn step<L: Library>(alloc: Global, library: &mut L, reading: Reading, pre: &mut Pre, opens: &mut Vec<Open>, row: &[Lexeme]) -> Result<(), Stop>
+fn step<L: Library>(
+    alloc: Global,
+    library: &mut L,
+    reading: Reading,
+    pre: &mut Pre,
+    opens: &mut Vec<Open>,
+    row: &[Lexeme],
+) -> Result<(), Stop>
     requires { length pre.old.out.items ≤ reading.limit }
     ensures room { OnOk result (length pre.new.out.items ≤ reading.limit) }
     ensures files { L.files library.new ≡ L.files library.old }
@@ -111,7 +131,13 @@ fn step<L: Library>(alloc: Global, library: &mut L, reading: Reading, pre: &mut 
 
 /// A whole text, line by line.
 #[cycle(reader)]
-pub fn read<L: Library>(alloc: Global, library: &mut L, reading: Reading, pre: &mut Pre, bytes: &[u8]) -> Result<(), Stop>
+pub fn read<L: Library>(
+    alloc: Global,
+    library: &mut L,
+    reading: Reading,
+    pre: &mut Pre,
+    bytes: &[u8],
+) -> Result<(), Stop>
     requires { length pre.old.out.items ≤ reading.limit }
     ensures room { OnOk result (length pre.new.out.items ≤ reading.limit) }
     ensures files { L.files library.new ≡ L.files library.old }

@@ -24,7 +24,13 @@ pub struct Pre {
 }
 
 // Puts out what a name expands to.
-fn put_name(alloc: Global, pre: &mut Pre, limit: usize, place: Place, name: &[u8]) -> Result<(), Stop>
+fn put_name(
+    alloc: Global,
+    pre: &mut Pre,
+    limit: usize,
+    place: Place,
+    name: &[u8],
+) -> Result<(), Stop>
     requires { length pre.old.out.items ≤ limit }
     ensures room { OnOk result (length pre.new.out.items ≤ limit) }
     ensures says { Says result (λ _. work_of pre.new) (put_name limit place (work_of pre.old) name.now) }
@@ -37,7 +43,13 @@ fn put_name(alloc: Global, pre: &mut Pre, limit: usize, place: Place, name: &[u8
 }
 
 // Puts out the token that a preprocessing token is converted to.
-fn put_token(alloc: Global, pre: &mut Pre, limit: usize, place: Place, lexeme: &Lexeme) -> Result<(), Stop>
+fn put_token(
+    alloc: Global,
+    pre: &mut Pre,
+    limit: usize,
+    place: Place,
+    lexeme: &Lexeme,
+) -> Result<(), Stop>
     requires { length pre.old.out.items ≤ limit }
     ensures room { OnOk result (length pre.new.out.items ≤ limit) }
     ensures says { Says result (λ _. work_of pre.new) (put_token limit place (work_of pre.old) (token_of lexeme.now.kind lexeme.now.spelling)) }
@@ -56,7 +68,13 @@ fn put_token(alloc: Global, pre: &mut Pre, limit: usize, place: Place, lexeme: &
 }
 
 // A preprocessing token of a line of text.
-fn put_lexeme(alloc: Global, pre: &mut Pre, limit: usize, origin: Origin, lexeme: &Lexeme) -> Result<(), Stop>
+fn put_lexeme(
+    alloc: Global,
+    pre: &mut Pre,
+    limit: usize,
+    origin: Origin,
+    lexeme: &Lexeme,
+) -> Result<(), Stop>
     requires { length pre.old.out.items ≤ limit }
     ensures room { OnOk result (length pre.new.out.items ≤ limit) }
     ensures says { Says result (λ _. work_of pre.new) (put_lexeme limit origin (work_of pre.old) lexeme.now) }
@@ -77,7 +95,13 @@ fn put_lexeme(alloc: Global, pre: &mut Pre, limit: usize, origin: Origin, lexeme
 }
 
 /// Reads a line of text token by token.
-pub fn text(alloc: Global, pre: &mut Pre, limit: usize, origin: Origin, line: &[Lexeme]) -> Result<(), Stop>
+pub fn text(
+    alloc: Global,
+    pre: &mut Pre,
+    limit: usize,
+    origin: Origin,
+    line: &[Lexeme],
+) -> Result<(), Stop>
     requires { length pre.old.out.items ≤ limit }
     ensures room { OnOk result (length pre.new.out.items ≤ limit) }
     ensures says { Says result (λ _. work_of pre.new) (text_at limit origin (work_of pre.old) line.now) }

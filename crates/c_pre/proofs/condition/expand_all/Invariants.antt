@@ -8,7 +8,7 @@ abbrev pub invariant-tokens : goal.invariant-tokens
 invariant-tokens l = record {
   same : l.macros ≡ l.fn.macros;
   room : length l.out.items ≤ most_tokens;
-  so_far : l.out.items ++ all_at l.place (all_expanded (macros_of l.fn.macros) l.rest) ≡ all_at l.place (all_expanded (macros_of l.fn.macros) l.tokens)
+  so_far : l.out.items ++ all_at l.place (all_expanded (macros_of l.fn.macros) l.rest) ≡ all_at l.place (all_expanded (macros_of l.fn.macros) l.tokens);
 }
 
 abbrev pub decreases-tokens : goal.decreases-tokens
