@@ -9,26 +9,20 @@ use Rattle.c_token.specs.declared.token.CSpanned.{CSpanned}
 use Rattle.c_lines.specs.declared.rule.Rule.TheVariants as rule
 use Rattle.c_lines.specs.declared.header.Delimiter.TheVariants.{Angle, Quote}
 use Rattle.c_define.specs.Definitions.{no_macros}
-use Rattle.c_define.specs.Numbers.{macros_of}
-use Rattle.c_pre.specs.declared.origin.Origin.{Origin}
-use Rattle.c_pre.specs.declared.origin.Origin.TheVariants.{Named, Included}
-use Rattle.c_pre.specs.declared.stop.Stop.{Stop}
-use Rattle.c_pre.specs.declared.stop.Stop.TheVariants as stop
-use Rattle.c_pre.specs.declared.work.Pre.{Pre}
-use Rattle.c_pre.specs.Reads.{Read, At, Asks, broken, ◌>>=◌}
-use Rattle.c_pre.specs.Headers.{header_text}
-use Rattle.c_pre.specs.Texts.{Work}
-use Rattle.c_pre.specs.Conditions.{Name, most_tokens}
+use Rattle.c_directives.specs.declared.origin.Origin.{Origin}
+use Rattle.c_directives.specs.declared.origin.Origin.TheVariants.{Named, Included}
+use Rattle.c_directives.specs.declared.stop.Stop.{Stop}
+use Rattle.c_directives.specs.declared.stop.Stop.TheVariants as stop
+use Rattle.c_directives.specs.Reads.{Read, At, Asks, broken, ◌>>=◌}
+use Rattle.c_directives.specs.Headers.{header_text}
+use Rattle.c_directives.specs.Sorting.{work_of, state_of}
+use Rattle.c_directives.specs.Conditions.{Name, most_tokens}
 use Rattle.jf_base.specs.declared.tag.Tag.{Tag}
 use Rattle.c_lines.specs.Rules.{tag_number}
-use Rattle.c_pre.specs.declared.stop.Broken.{Broken}
+use Rattle.c_directives.specs.declared.stop.Broken.{Broken}
 use Rattle.c_pre.specs.declared.file.PreFault.{PreFault}
 use Rattle.c_pre.specs.declared.file.PreFault.TheVariants as fault
-use Rattle.c_pre.specs.declared.line.Action.{Action}
-use Rattle.c_text.specs.declared.kind.Lexeme.{Lexeme}
-use Rattle.c_lines.specs.declared.head.Head.{Head}
-use Rattle.c_lines.specs.Rows.{Row}
-use Rattle.c_pre.specs.Reading.{State, Including, Opens, Stand, with_opens, act_at, directive_at, line_at, file_at}
+use Rattle.c_directives.specs.Reading.{State, Including, file_at}
 
 -- ---- files
 
@@ -56,12 +50,6 @@ include_at files limit zero s name place = broken rule.Header place
 include_at files limit (suc k) s name place = header_in files (λ s bytes. file_at (include_at files limit k) limit (Included place) s bytes) s name place
 
 -- ---- what the program gives
-
-abbrev pub work_of : Pre → Work
-work_of pre = record { macros = macros_of pre.macros; out = pre.out.items }
-
-abbrev pub state_of : ℕ → Pre → State
-state_of k pre = record { work = work_of pre; calls = k }
 
 -- an answer, where so many calls are left
 abbrev pub Answers : {A B : Type 0} → Result A Stop → ℕ → (A → B) → Read B → Type 0
@@ -103,22 +91,6 @@ most_deep = 16
 -- the tokens of a file of the words, where the files before have so many tokens and so many more files are given
 unfoldable pub expanded_at : List (List ℕ × List ℕ) → ℕ → ℕ → List ℕ → ℕ → Read (List CSpanned)
 expanded_at files file before bytes k = let limit = most_tokens - before in out_of (file_at (include_at files limit most_deep) limit (Named file) (start k) bytes)
-
--- ---- what the program does with a line
-
--- the line is done with, or is still to be acted on, where nothing is changed yet
-abbrev pub Sorted : Result (Option Action) Stop → ℕ → Pre → Pre → Opens → Opens → Including → Read Stand → Type 0
-Sorted (Ok None) k pre pre' os os' including r = r ≡ Ok (os', state_of k pre')
-Sorted (Ok (Some a)) k pre pre' os os' including r = (os' ≡ os) × (work_of pre' ≡ work_of pre) × (r ≡ with_opens os (act_at including a.head (state_of k pre) a.place a.tail.now))
-Sorted (Err stop.Memory) k pre pre' os os' including r = Unit {0}
-Sorted (Err (stop.Library name)) k pre pre' os os' including r = ⊥
-Sorted (Err (stop.At f)) k pre pre' os os' including r = r ≡ Err (At f)
-
-abbrev pub SortsDirective : Result (Option Action) Stop → ℕ → Pre → Pre → Opens → Opens → Including → Head → Place → List Lexeme → Type 0
-SortsDirective result k pre pre' os os' including h place tail = Sorted result k pre pre' os os' including (directive_at including h (os, state_of k pre) place tail)
-
-abbrev pub Sorts : Result (Option Action) Stop → ℕ → Pre → Pre → Opens → Opens → Including → ℕ → Origin → Row → Type 0
-Sorts result k pre pre' os os' including limit origin row = Sorted result k pre pre' os os' including (line_at including limit origin (os, state_of k pre) row)
 
 -- ---- what `expand` tells
 

@@ -1,6 +1,0 @@
-use Rattle.std.proofs.Common.{◌≡◌, map, take}
-use Rattle.c_pre.specs.Conditions.{operand_of}
-use Rattle.c_pre.proofs.condition.operands.Given as goal
-
-abbrev pub invariant-loop-spanned : goal.invariant-loop-spanned
-invariant-loop-spanned l = l.operands.items ≡ map (λ s. operand_of s.token) (take l.spanned-index l.tokens)
