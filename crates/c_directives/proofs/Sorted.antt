@@ -76,6 +76,7 @@ module _ (including : Including) (limit : ℕ) (origin : Origin) (os : Opens) (s
       ill : (o : Option Fault) → unless_ill {A = Stand} origin o (Ok (os, s)) ≡ with_opens os (with_work s (unless_ill {A = Work} origin o (Ok s.work)))
       ill None = refl
       ill (Some f) = refl
+
       pick : (b : Bool) → is_live os ≡ b → line_at including limit origin (os, s) row ≡ with_opens os (with_work s (cond {A = Read Work} b (text_at limit origin s.work tail) (unless_ill origin (first_ill row) (Ok s.work))))
       pick true f = text_line_live e f
       pick false f = quiet_line e f ∙ ill (first_ill row)
