@@ -5,6 +5,7 @@
 #![tactic(auto)]
 
 mod expander;
+mod macros;
 mod quick;
 mod table;
 mod token;
@@ -15,7 +16,7 @@ ghost use Rattle.c_macros.specs.declared.token.Token.{Token};
 ghost use Rattle.c_macros.specs.declared.token.Token.TheVariants.{Name, Other};
 
 pub use expander::expand;
-pub use quick::{expand_quick, nothing_remembered};
+pub use macros::MacroTable;
 pub use token::{Spanned, Token};
 
 /// Each list of tokens expands to a list: expansion ends.

@@ -4,6 +4,7 @@ ghost use Rattle.std.specs.Prelude.{◌≡◌, ◌≤◌, length, reverse, OnOk,
 ghost use Rattle.c_macros.specs.Expansion.{Bodies, Macros};
 ghost use Rattle.c_macros.specs.Stack.{Expanded, texts};
 ghost use Rattle.c_macros.specs.Remembering.{kind_at, Takes, wet, Remembers};
+ghost use Rattle.c_macros.specs.Keeping.{AreTracked};
 
 use crate::expander::token_at;
 use crate::table::{is_up, set};
@@ -47,15 +48,18 @@ fn kind_of(on: &[bool], void: &[bool], token: Token) -> Kind
 fn close(
     on: &mut [bool],
     void: &mut [bool],
+    remembered: &mut Vec<usize>,
     stack: &mut Vec<Level>,
     level: Level,
 ) -> Result<(), AllocError>
     ensures macros { on.new ≡ slice_set on.old level.name true }
-    ensures void { void.new ≡ (if level.dry then slice_set void.old level.name true else void.old) }
+    ensures void { OnOk result (void.new ≡ (if level.dry then slice_set void.old level.name true else void.old)) }
+    ensures tracked { AreTracked void.old remembered.old.items → AreTracked void.new remembered.new.items }
     ensures stack { OnOk result (reverse stack.new.items ≡ (if level.dry then reverse stack.old.items else wet (reverse stack.old.items))) }
 {
     set(on, level.name, true);
     if level.dry {
+        remembered.push(level.name)?;
         set(void, level.name, true);
         Ok(())
     } else {
@@ -126,13 +130,14 @@ fn take(
     }
 }
 
-/// As `expand`, where macros that were seen to give nothing are passed over, so that no
-/// replacement that gives nothing is made twice. What is remembered holds until a macro is defined or undefined.
+// As `expand`, where macros that were seen to give nothing are passed over, so that no replacement that gives nothing is made twice. What is
+// remembered holds until a macro is defined or undefined; `remembered` has each name whose flag is up.
 pub fn expand_quick(
     alloc: Global,
     bodies: &[Vec<Token>],
     on: &mut [bool],
     void: &mut [bool],
+    remembered: &mut Vec<usize>,
     out: &mut Vec<Spanned>,
     limit: usize,
     token: Token,
@@ -141,8 +146,10 @@ pub fn expand_quick(
     requires room { length out.old.items ≤ limit }
     requires names { length on.old ≤ length void.old }
     requires void { Remembers (texts bodies.now) on.old void.old }
+    requires tracked { AreTracked void.old remembered.old.items }
     ensures tokens { IfOk result (λ fits. Expanded (texts bodies.now) limit token place fits on.old out.old.items on.new out.new.items) }
     ensures void { IfOk result (λ fits. IsTrue fits → Remembers (texts bodies.now) on.new void.new) }
+    ensures tracked { AreTracked void.new remembered.new.items }
 {
     let mut stack = Vec::new(alloc);
     match kind_of(on, void, token) {
@@ -165,7 +172,7 @@ pub fn expand_quick(
     }
     while let Some(level) = stack.pop() {
         match token_at(bodies, level.name, level.at) {
-            None => close(on, void, &mut stack, level)?,
+            None => close(on, void, remembered, &mut stack, level)?,
             Some(next) => {
                 if !take(on, void, &mut stack, out, limit, level, next, place)? {
                     return Ok(false);
@@ -174,16 +181,4 @@ pub fn expand_quick(
         }
     }
     Ok(true)
-}
-
-/// What is remembered of so many names before any was replaced: nothing.
-pub fn nothing_remembered(alloc: Global, names: usize) -> Result<Vec<bool>, AllocError>
-    ensures length { IfOk result (λ v. length v.items ≡ names) }
-    ensures remembers { IfOk result (λ v. (bodies : Bodies) (on : Macros) → length on ≤ names → Remembers bodies on v.items) }
-{
-    let mut void = Vec::new(alloc);
-    for _name in 0..names {
-        void.push(false)?;
-    }
-    Ok(void)
 }

@@ -1,4 +1,5 @@
 use crate::expander::expand;
+use crate::macros::MacroTable;
 use crate::token::{Spanned, Token};
 use jf_base::Place;
 use std::alloc::{AllocError, Global};
@@ -70,5 +71,30 @@ fn an_expansion_has_room_or_not(rt: HostRuntime) -> Result<(), Fail> {
         expanded(alloc, bodies.as_slice(), &mut on, Token::Name(2))?.as_str(),
         "779"
     );
+    Ok(())
+}
+
+// A table in which each macro is the one before it twice, and the first is empty.
+fn doubling(alloc: Global, count: usize) -> Result<MacroTable, AllocError> {
+    let mut table = MacroTable::new(alloc);
+    table.define(alloc, 0, Vec::new(alloc))?;
+    for name in 1..count {
+        let body = [Token::Name(name - 1), Token::Name(name - 1)].to_vec(alloc)?;
+        table.define(alloc, name, body)?;
+    }
+    Ok(table)
+}
+
+#[test]
+fn what_gives_nothing_is_replaced_once(rt: HostRuntime) -> Result<(), Fail> {
+    let alloc = rt.alloc();
+    let mut table = doubling(alloc, 200)?;
+    let mut tokens: Vec<Spanned> = Vec::new(alloc);
+    assert!(rt; table.expand(alloc, &mut tokens, 3, Token::Name(199), PLACE)?);
+    assert_eq!(rt; tokens.len(), 0);
+    assert_eq!(rt; table.body(7).len(), 2);
+    table.undefine(0);
+    assert!(rt; !table.is_macro(0));
+    assert!(rt; !table.expand(alloc, &mut tokens, 3, Token::Name(199), PLACE)?);
     Ok(())
 }

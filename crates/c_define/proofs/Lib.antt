@@ -1,0 +1,5 @@
+pub mod Named
+pub mod Wide
+pub mod Agree
+pub mod Told
+pub mod Put

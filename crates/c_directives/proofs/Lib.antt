@@ -1,0 +1,4 @@
+pub mod Values
+pub mod Puts
+pub mod Steps
+pub mod Sorted

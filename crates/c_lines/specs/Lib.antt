@@ -1,0 +1,4 @@
+pub mod Rows
+pub mod Rules
+pub mod Heads
+pub mod Headers
