@@ -124,6 +124,9 @@ comma_intrinsic rest = mark_of Comma (word_of (codes "intrinsic") rest)
 abbrev pub use_statement : Use → Front
 use_statement u rest = placed_word (codes "use") u.place (when u.is_intrinsic comma_intrinsic (colons u.has_colons (name_of u.module (use_list u.list rest))))
 
+abbrev pub use_line : Use → Front
+use_line u rest = use_statement u (statement_end rest)
+
 abbrev pub import_statement : Import → Front
 import_statement i rest = placed_word (codes "import") i.place (colons i.has_colons (listed (map name_of i.names) rest))
 

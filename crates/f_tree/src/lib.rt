@@ -9,9 +9,13 @@ mod expression;
 mod lexeme;
 mod name;
 mod spell;
+mod spell_action;
 mod spell_declaration;
 mod spell_definition;
 mod spell_expression;
+mod spell_specification;
+mod spell_statement;
+mod spell_unit;
 mod statement;
 mod unit;
 
@@ -31,6 +35,8 @@ pub use spell::{Spell, put_behind_commas, put_each, put_listed};
 pub use spell_expression::{
     put_arguments, put_expression, put_expressions, put_reference, put_type,
 };
+pub use spell_specification::put_specification;
+pub use spell_statement::{put_statement, put_statements};
 pub use statement::{
     Action, Case, CaseChoice, CaseRange, DoConstruct, Else, ElseIf, IfConstruct, LoopControl,
     RankCase, RankChoice, SelectCase, SelectRank, Statement,
