@@ -63,6 +63,15 @@ impl Lexemes {
         }
     }
 
+    /// The lexemes from the first to the last.
+    pub fn into_vec(self) -> Vec<Lexeme>
+        ensures { result.items ≡ self }
+    {
+        let mut all = self.backward;
+        all.reverse();
+        all
+    }
+
     /// Puts a token in front.
     fn put(&mut self, token: Token, place: Option<Place>) -> Result<(), AllocError>
         ensures { OnOk result (self.new ≡ lexeme token place self.old) }

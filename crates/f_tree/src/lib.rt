@@ -8,6 +8,8 @@ mod declaration;
 mod expression;
 mod lexeme;
 mod name;
+mod page;
+mod print;
 mod spell;
 mod spell_action;
 mod spell_declaration;
@@ -31,6 +33,8 @@ pub use expression::{
 };
 pub use lexeme::{Lexeme, Lexemes, copy_bytes};
 pub use name::Name;
+pub use page::text_of;
+pub use print::print_unit;
 pub use spell::{Spell, put_behind_commas, put_each, put_listed};
 pub use spell_expression::{
     put_arguments, put_expression, put_expressions, put_reference, put_type,
