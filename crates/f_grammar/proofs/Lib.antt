@@ -1,0 +1,5 @@
+pub mod Sound
+pub mod Begins
+pub mod Closed
+pub mod Steps
+pub mod Again
