@@ -1,5 +1,5 @@
 -- The tokens of declarations (ISO/IEC 1539-1:2018, 7.5, 8, 14.2.2 and 15.4.3), each in front of a rest.
-use Rattle.std.specs.Prelude.{ℕ, List, Some, None, Bool, codes, map}
+use Rattle.std.specs.Prelude.{ℕ, List, Some, Bool, codes, map}
 use Rattle.jf_base.specs.declared.place.Place.{Place}
 use Rattle.f_lex.specs.declared.token.Mark.TheVariants.{Open, Close, Comma, Colon, DoubleColon, DotDot, Star, Assign, Arrow}
 use Rattle.f_lex.specs.declared.token.Token.TheVariants as token

@@ -1,5 +1,5 @@
 -- The tokens of executable statements and constructs (ISO/IEC 1539-1:2018, 9.7, 10.2, 11 and 12.6), each in front of a rest.
-use Rattle.std.specs.Prelude.{ℕ, List, [], ◌∷◌, Option, Some, None, Bool, true, false, codes, map}
+use Rattle.std.specs.Prelude.{ℕ, List, Option, Bool, true, false, codes, map}
 use Rattle.jf_base.specs.declared.place.Place.{Place}
 use Rattle.f_lex.specs.declared.token.Mark.TheVariants.{Open, Close, Comma, Colon, Star, Assign, Arrow}
 use Rattle.f_tree.specs.declared.name.Name.{Name}

@@ -1,7 +1,6 @@
 -- The tokens of specifications, interfaces, procedures and program units (ISO/IEC 1539-1:2018, 5.1, 14, 15.4.3.2 and 15.6.2), each in front of a rest.
 use Rattle.std.specs.Prelude.{ℕ, List, Bool, true, false, codes, map}
 use Rattle.jf_base.specs.declared.place.Place.{Place}
-use Rattle.f_lex.specs.declared.token.Mark.TheVariants.{Open, Close}
 use Rattle.f_tree.specs.declared.name.Name.{Name}
 use Rattle.f_tree.specs.declared.unit.ProcedureKind.{ProcedureKind}
 use Rattle.f_tree.specs.declared.unit.ProcedureKind.TheVariants.{Subroutine, Function}
@@ -23,7 +22,7 @@ use Rattle.f_tree.specs.declared.declaration.Declaration.TheFolds.{fold-Interfac
 use Rattle.f_tree.specs.declared.declaration.Interface.{Interface}
 use Rattle.f_tree.specs.declared.declaration.InterfaceBody.{InterfaceBody}
 use Rattle.f_tree.specs.declared.declaration.Specification.{Specification}
-use Rattle.f_tree.specs.Lexemes.{Front, mark_of, word_of, placed_word, name_of, each, listed, in_parentheses, if_there, statement_end}
+use Rattle.f_tree.specs.Lexemes.{Front, word_of, placed_word, name_of, each, listed, in_parentheses, if_there, statement_end}
 use Rattle.f_tree.specs.Expressions.{type_spec}
 use Rattle.f_tree.specs.Declarations.{bind_list, variables, derived_type, access_statement, procedure_pointers, use_line, import_statement, ending}
 use Rattle.f_tree.specs.Statements.{statement}

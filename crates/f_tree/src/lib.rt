@@ -31,7 +31,7 @@ pub use expression::{
     Argument, CharacterParameter, Expression, KindSelector, Level, Link, Part, Range, Reference,
     Sign, TypeSpec,
 };
-pub use lexeme::{Lexeme, Lexemes, copy_bytes};
+pub use lexeme::{Lexeme, Lexemes, copy_bytes, copy_kind};
 pub use name::Name;
 pub use page::text_of;
 pub use print::print_unit;
@@ -46,3 +46,6 @@ pub use statement::{
     RankCase, RankChoice, SelectCase, SelectRank, Statement,
 };
 pub use unit::{Head, Module, Prefix, Procedure, ProcedureKind, Program, Suffix, Unit};
+
+#[cfg(test)]
+mod tests;

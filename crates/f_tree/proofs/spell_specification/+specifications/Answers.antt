@@ -1,4 +1,4 @@
-use Rattle.std.proofs.Common.{◌≡◌, ◌<◌, ◌≤◌, ◌+◌, ◌-◌, get_or, length, sym, ◌∙◌, arith}
+use Rattle.std.proofs.Common.{◌≡◌, ◌<◌, ◌+◌, ◌-◌, get_or, length, sym, ◌∙◌, arith}
 use Rattle.f_tree.specs.Units.{declaration, interface_body}
 use Rattle.f_tree.proofs.Steps.{each-step}
 use Rattle.f_tree.proofs.spell_specification.+specifications.Goals as goal

@@ -1,4 +1,4 @@
-use Rattle.std.proofs.Common.{◌≡◌, ◌<◌, ◌≤◌, ◌+◌, ◌-◌, get_or, length, sym, ◌∙◌, arith}
+use Rattle.std.proofs.Common.{◌≡◌, ◌<◌, ◌+◌, ◌-◌, get_or, length, sym, ◌∙◌, arith}
 use Rattle.f_tree.specs.Statements.{statement, else_if, case_block, rank_block}
 use Rattle.f_tree.proofs.Steps.{each-step}
 use Rattle.f_tree.proofs.spell_statement.+statements.Goals as goal

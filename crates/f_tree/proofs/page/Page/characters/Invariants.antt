@@ -1,4 +1,4 @@
-use Rattle.std.proofs.Common.{◌≡◌, ◌++◌, length}
+use Rattle.std.proofs.Common.{◌≡◌, length}
 use Rattle.f_tree.specs.Text.{and_then, characters}
 use Rattle.f_tree.proofs.page.Page.characters.Given as goal
 
