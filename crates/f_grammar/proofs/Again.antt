@@ -1,23 +1,16 @@
 -- What fits and is spelled before a rest that doesn't go on with it is read.
-use Rattle.std.proofs.Common.{◌≡◌, ℕ, zero, suc, ◌+◌, ◌<◌, ◌≤◌, Bool, true, false, cond, eqb, List, [], ◌∷◌, length, Option, Some, None, refl, sym, ap, subst, ◌∙◌, arith, ⊎_elim}
+use Rattle.std.proofs.Common.{◌≡◌, ℕ, zero, suc, ◌≤◌, Bool, true, false, List, ◌∷◌, length, Some, None, refl, sym, ap, ◌∙◌, arith}
 use Rattle.std.specs.Prelude.{codes}
-use Rattle.std.specs.Str.{bytes_eq}
-use Rattle.std.proofs.lemmas.Bool.{eqb-true, eq-eqb, cases_lt}
-use Rattle.f_lex.specs.declared.token.Kind.{Kind}
-use Rattle.f_lex.specs.declared.token.Mark.{Mark}
 use Rattle.f_lex.specs.declared.token.Mark.TheVariants as mark
 use Rattle.f_lex.specs.declared.token.Token.{Token}
 use Rattle.f_lex.specs.declared.token.Token.TheVariants as token
-use Rattle.f_grammar.specs.Grammar.{Expr, Number, Truth, Text, Ref, Paren, Array, Typed, Chain, Links, no_links, link, Refer, refer, Parts, no_parts, part, Part, named, Group, NoGroup, group, Range, NoRange, range, Args, no_args, arg, Arg, Value, Section, Strided, Maybe, Absent, Present, TypeOf, Integer, Logical, Character, Derived, Assumed, Selector, NoKind, kind, Params, NoParams, params, More, no_more, more, Param, Length, AnyLength, KindParam, height_of, sign_height, put, spell_sign, spell_key, spell_word, spell, spell_links, spell_refer, spell_parts, spell_part, spell_group, spell_range, spell_args, spell_others, spell_arg, spell_maybe, spell_stride, spell_type, spell_kind, spell_params, spell_mores, spell_param, IsChain, IsSign, count, IsKey, IsSome, IsLength, IsKind, HasGroup, Fits, FitsLinks, FitsRefer, FitsParts, FitsPart, FitsGroup, FitsRange, FitsArgs, FitsArg, FitsMaybe, FitsType, FitsKind, FitsParams, FitsMores, FitsParam, Within}
-use Rattle.f_grammar.specs.Reading.{◌>>=◌, choose, Read, Reader, open_at, closed_at, comma_at, percent_at, colon_at, colons_at, star_at, name_at, end_at, key_at, key_is, word_at, sign_at, link_at, begins_colon, ends_bound, begins_typed, links_at, most_links, chain, level_at, upper_at, stride_at, section_at, behind_first, subscript_at, arg_at, others_at, args_at, lower_at, range_at, substring_at, behind_name, part_at, parts_at, refer_at, worded, kind_at, selector_at, length_at, kind_param, bare_param_at, param_at, mores_at, params_at, character_at, derived_at, type_name_at, integer_at, logical_at, typed_by, type_at, typed_items_at, not_empty, items_at, primary_at, expr_at}
-use Rattle.f_grammar.specs.Grammar.{Stops, EndsType, IsApart}
-use Rattle.f_grammar.specs.Reading.{closing, behind_group, is_colons}
+use Rattle.f_grammar.specs.Grammar.{Expr, Number, Truth, Text, Ref, Paren, Array, Typed, Chain, Links, no_links, link, Refer, refer, Parts, no_parts, part, Part, named, NoGroup, group, NoRange, range, Args, no_args, arg, Arg, Value, Section, Strided, Maybe, Absent, Present, TypeOf, Integer, Logical, Character, Derived, Assumed, Selector, NoKind, kind, Params, NoParams, params, More, no_more, more, Param, Length, AnyLength, KindParam, put, spell, spell_links, spell_refer, spell_parts, spell_part, spell_args, spell_others, spell_arg, spell_maybe, spell_stride, spell_type, spell_kind, spell_params, spell_mores, spell_param, count, Fits, FitsLinks, FitsRefer, FitsParts, FitsPart, FitsArgs, FitsArg, FitsMaybe, FitsType, FitsKind, FitsParams, FitsMores, FitsParam, Within}
+use Rattle.f_grammar.specs.Reading.{Read, end_at, key_at, begins_colon, ends_bound, links_at, most_links, level_at, upper_at, stride_at, arg_at, others_at, args_at, lower_at, part_at, parts_at, refer_at, selector_at, param_at, mores_at, character_at, type_at, primary_at, expr_at}
+use Rattle.f_grammar.specs.Grammar.{Stops, EndsType}
 use Rattle.f_grammar.proofs.Sound.{ender}
-use Rattle.std.proofs.lemmas.Slice.Eq.{bytes_eq-Decides}
-use Rattle.f_grammar.proofs.Sound.{chain_spell}
-use Rattle.f_grammar.proofs.Begins.{count_args, count_parts, count_mores, grows_links, grows_parts, grows_others, grows_mores, Starts, starts_within, no_end, no_bound_end, no_colon, no_star, no_sign, no_key_within, no_word, stops_lower, no_link, stops_links, no_percent, stops_open, no_open, parts_open, EndsArg, others_end, Ended, ended, bound_ends}
+use Rattle.f_grammar.proofs.Begins.{count_args, count_parts, count_mores, grows_links, grows_parts, grows_others, grows_mores, starts_within, no_end, no_bound_end, no_colon, no_star, no_sign, no_key_within, stops_lower, no_link, stops_links, no_percent, no_open, parts_open, EndsArg, others_end, ended}
 use Rattle.f_grammar.proofs.Closed.{no_typed_items, begins_types}
-use Rattle.f_grammar.proofs.Steps.{end_again, no_comma_end, same_word, word_again, other_word, value_within, strided_within, maybe_within, kind_within, length_within, kind_param_within, link_stop, link_step, chain_step, lift, sign_again, link_again, chain_is, enough, chain_again, upper_stop, upper_step, lower_step, lower_stop, stride_stop, stride_step, section_step, strided_step, bounded_step, unbounded_step, plain_step, subscript_step, keyed_step, item_step, others_stop, others_step, args_none, args_step, range_step, range_stop, plain_part, group_part, parts_stop, parts_step, refer_step, worded_again, selector_stop, selector_step, length_step, star_step, len_step, kind_step, bare_step, bare_kind, bare_length, mores_stop, mores_step, params_step, params_stop, integer_again, logical_again, character_again, derived_again, assumed_again, refer_again_step, paren_again, array_again, typed_again, literal_number, literal_truth, literal_text, low, inside}
+use Rattle.f_grammar.proofs.Steps.{no_comma_end, value_within, strided_within, maybe_within, kind_within, length_within, kind_param_within, link_stop, link_step, lift, link_again, enough, chain_again, upper_stop, upper_step, lower_step, lower_stop, stride_stop, stride_step, section_step, strided_step, bounded_step, unbounded_step, plain_step, subscript_step, keyed_step, item_step, others_stop, others_step, args_none, args_step, range_step, range_stop, plain_part, group_part, parts_stop, parts_step, refer_step, worded_again, selector_stop, selector_step, length_step, star_step, len_step, kind_step, bare_step, bare_kind, bare_length, mores_stop, mores_step, params_step, params_stop, integer_again, logical_again, character_again, derived_again, assumed_again, refer_again_step, paren_again, array_again, typed_again, literal_number, literal_truth, literal_text, low, inside}
 
 -- ---- what ends a bound, and what a colon isn't
 
@@ -143,7 +136,7 @@ mutual
   part_again (named name (group args) (range lower upper)) n rest f s = group_part (expr_at n) name _ _ rest args (range lower upper) (args_again args n true _ f.0)
       (range_step (expr_at n) _ _ rest rest lower upper (lower_again lower n _ f.1.1) (upper_again upper n (put mark.Close rest) f.1.2 tt))
 
-  args_again : (args : Args) (n : ℕ) (in_call : Bool) (rest : List Token) → FitsArgs n in_call args → args_at (expr_at n) in_call (spell_args args (put (ender in_call) rest)) ≡ Some (args, rest)
+  pub args_again : (args : Args) (n : ℕ) (in_call : Bool) (rest : List Token) → FitsArgs n in_call args → args_at (expr_at n) in_call (spell_args args (put (ender in_call) rest)) ≡ Some (args, rest)
   args_again no_args n in_call rest f = args_none (expr_at n) in_call rest
   args_again (arg a args) n in_call rest f =
       let tail = spell_others args (put (ender in_call) rest) in

@@ -1,17 +1,13 @@
 -- The parentheses of a tree are closed in it; so items that begin with no type are told from those that do.
-use Rattle.std.proofs.Common.{◌≡◌, ℕ, zero, suc, ◌+◌, ◌<◌, ◌≤◌, Bool, true, false, cond, eqb, List, [], ◌∷◌, length, Option, Some, None, refl, sym, ap, subst, ◌∙◌, arith, ⊎_elim}
+use Rattle.std.proofs.Common.{◌≡◌, ℕ, zero, suc, ◌≤◌, Bool, true, false, List, ◌∷◌, Option, Some, None, refl, ap, ◌∙◌, arith}
 use Rattle.std.specs.Prelude.{codes}
-use Rattle.std.specs.Str.{bytes_eq}
-use Rattle.std.proofs.lemmas.Bool.{eqb-true, eq-eqb, cases_lt}
 use Rattle.f_lex.specs.declared.token.Mark.{Mark}
 use Rattle.f_lex.specs.declared.token.Mark.TheVariants as mark
 use Rattle.f_lex.specs.declared.token.Token.{Token}
 use Rattle.f_lex.specs.declared.token.Token.TheVariants as token
-use Rattle.f_grammar.specs.Grammar.{Expr, Number, Truth, Text, Ref, Paren, Array, Typed, Chain, Links, no_links, link, Refer, refer, Parts, no_parts, part, Part, named, Group, NoGroup, group, Range, NoRange, range, Args, no_args, arg, Arg, Value, Section, Strided, Maybe, Absent, Present, TypeOf, Integer, Logical, Character, Derived, Assumed, Selector, NoKind, kind, Params, NoParams, params, More, no_more, more, Param, Length, AnyLength, KindParam, height_of, sign_height, put, spell_sign, spell_key, spell_word, spell, spell_links, spell_refer, spell_parts, spell_part, spell_group, spell_range, spell_args, spell_others, spell_arg, spell_maybe, spell_stride, spell_type, spell_kind, spell_params, spell_mores, spell_param, IsChain, IsSign, count, IsKey, IsSome, IsLength, IsKind, HasGroup, Fits, FitsLinks, FitsRefer, FitsParts, FitsPart, FitsGroup, FitsRange, FitsArgs, FitsArg, FitsMaybe, FitsType, FitsKind, FitsParams, FitsMores, FitsParam, Within}
-use Rattle.f_grammar.specs.Reading.{◌>>=◌, choose, Read, Reader, open_at, closed_at, comma_at, percent_at, colon_at, colons_at, star_at, name_at, end_at, key_at, key_is, word_at, sign_at, link_at, begins_colon, ends_bound, begins_typed, links_at, most_links, chain, level_at, upper_at, stride_at, section_at, behind_first, subscript_at, arg_at, others_at, args_at, lower_at, range_at, substring_at, behind_name, part_at, parts_at, refer_at, worded, kind_at, selector_at, length_at, kind_param, bare_param_at, param_at, mores_at, params_at, character_at, derived_at, type_name_at, integer_at, logical_at, typed_by, type_at, typed_items_at, not_empty, items_at, primary_at, expr_at}
-use Rattle.f_grammar.specs.Grammar.{Stops, EndsType, IsApart}
+use Rattle.f_grammar.specs.Grammar.{Expr, Number, Truth, Text, Ref, Paren, Array, Typed, Chain, Links, no_links, link, Refer, refer, Parts, no_parts, part, Part, named, Group, NoGroup, group, Range, NoRange, range, Args, no_args, arg, Arg, Value, Section, Strided, Maybe, Absent, Present, TypeOf, Integer, Logical, Character, Derived, Assumed, Selector, NoKind, kind, Params, NoParams, params, More, no_more, more, Param, Length, AnyLength, KindParam, height_of, sign_height, put, spell_key, spell_word, spell, spell_links, spell_refer, spell_parts, spell_part, spell_group, spell_range, spell_args, spell_others, spell_arg, spell_maybe, spell_stride, spell_type, spell_kind, spell_params, spell_mores, spell_param, Fits, FitsLinks, FitsRefer, FitsParts, FitsPart, FitsGroup, FitsRange, FitsArgs, FitsArg, FitsMaybe, FitsType, FitsKind, FitsParams, FitsMores, FitsParam}
+use Rattle.f_grammar.specs.Reading.{begins_typed}
 use Rattle.f_grammar.specs.Reading.{closing, behind_group, is_colons}
-use Rattle.f_grammar.proofs.Sound.{ender}
 
 -- ---- parentheses are closed in a tree
 

@@ -1,5 +1,5 @@
 -- The grammar of expressions, references and types (ISO/IEC 1539-1:2018, 7.2, 9 and 10.1): what a tree is, its tokens, and which trees fit.
-use Rattle.std.specs.Prelude.{◌≡◌, ℕ, zero, suc, ◌+◌, ◌<◌, ◌≤◌, List, [], ◌∷◌, Option, Some, None, Bool, true, false, codes}
+use Rattle.std.specs.Prelude.{◌≡◌, ℕ, zero, suc, ◌+◌, ◌<◌, ◌≤◌, List, ◌∷◌, Option, Some, None, Bool, true, false, codes}
 use Rattle.f_lex.specs.declared.token.Kind.{Kind}
 use Rattle.f_lex.specs.declared.token.Mark.{Mark}
 use Rattle.f_lex.specs.declared.token.Mark.TheVariants as mark

@@ -4,6 +4,8 @@ ghost use Rattle.std.specs.Prelude.{◌≡◌, ℕ, List, Some};
 ghost use Rattle.f_lex.specs.declared.token.Token.{Token};
 ghost use Rattle.f_grammar.specs.Grammar.{Expr, Refer, TypeOf, spell, spell_refer, spell_type, FitsRefer, FitsType, Within, Stops, EndsType};
 ghost use Rattle.f_grammar.specs.Reading.{IfSome, expr_at, refer_at, type_at};
+ghost use Rattle.f_grammar.specs.Actions.{Act, spell_act, FitsAct};
+ghost use Rattle.f_grammar.specs.ActionReading.{act_at};
 
 /// An expression that is read is spelled by the tokens before the rest, and fits.
 pub fn what_is_read_fits()
@@ -38,4 +40,19 @@ pub fn type_that_is_read_fits()
 /// A type that fits and is spelled before a rest that doesn't go on with it is read.
 pub fn type_that_fits_is_read()
     ensures { (n : ℕ) (t : TypeOf) (rest : List Token) → FitsType n t → EndsType rest → type_at (expr_at n) (spell_type t rest) ≡ Some (t, rest) }
+{}
+
+/// An action statement that is read is spelled by all the tokens, and fits.
+pub fn action_that_is_read_fits()
+    ensures { (n : ℕ) (ts : List Token) → IfSome (act_at n ts) (λ a. (ts ≡ spell_act a) × FitsAct n a) }
+{}
+
+/// An action statement that fits is read from its tokens, though no keyword is reserved.
+pub fn action_that_fits_is_read()
+    ensures { (n : ℕ) (a : Act) → FitsAct n a → act_at n (spell_act a) ≡ Some a }
+{}
+
+/// The tokens of an action statement are those of no other.
+pub fn one_action()
+    ensures { (n : ℕ) (a b : Act) → FitsAct n a → FitsAct n b → spell_act a ≡ spell_act b → a ≡ b }
 {}
