@@ -1,5 +1,5 @@
 -- The tokens of declarations (ISO/IEC 1539-1:2018, 7.5, 8, 14.2.2 and 15.4.3), each in front of a rest.
-use Rattle.std.specs.Prelude.{ℕ, List, Some, None, Bool, codes, map}
+use Rattle.std.specs.Prelude.{ℕ, List, Some, Bool, codes, map}
 use Rattle.jf_base.specs.declared.place.Place.{Place}
 use Rattle.f_lex.specs.declared.token.Mark.TheVariants.{Open, Close, Comma, Colon, DoubleColon, DotDot, Star, Assign, Arrow}
 use Rattle.f_lex.specs.declared.token.Token.TheVariants as token
@@ -123,6 +123,9 @@ comma_intrinsic rest = mark_of Comma (word_of (codes "intrinsic") rest)
 
 abbrev pub use_statement : Use → Front
 use_statement u rest = placed_word (codes "use") u.place (when u.is_intrinsic comma_intrinsic (colons u.has_colons (name_of u.module (use_list u.list rest))))
+
+abbrev pub use_line : Use → Front
+use_line u rest = use_statement u (statement_end rest)
 
 abbrev pub import_statement : Import → Front
 import_statement i rest = placed_word (codes "import") i.place (colons i.has_colons (listed (map name_of i.names) rest))

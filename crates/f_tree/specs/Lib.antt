@@ -2,3 +2,5 @@ pub mod Lexemes
 pub mod Expressions
 pub mod Declarations
 pub mod Statements
+pub mod Units
+pub mod Text

@@ -1,5 +1,5 @@
 -- The tokens of executable statements and constructs (ISO/IEC 1539-1:2018, 9.7, 10.2, 11 and 12.6), each in front of a rest.
-use Rattle.std.specs.Prelude.{ℕ, List, [], ◌∷◌, Option, Some, None, Bool, true, false, codes, map}
+use Rattle.std.specs.Prelude.{ℕ, List, Option, Bool, true, false, codes, map}
 use Rattle.jf_base.specs.declared.place.Place.{Place}
 use Rattle.f_lex.specs.declared.token.Mark.TheVariants.{Open, Close, Comma, Colon, Star, Assign, Arrow}
 use Rattle.f_tree.specs.declared.name.Name.{Name}
@@ -16,8 +16,21 @@ use Rattle.f_tree.specs.declared.statement.CaseChoice.{CaseChoice}
 use Rattle.f_tree.specs.declared.statement.CaseChoice.TheVariants as choice
 use Rattle.f_tree.specs.declared.statement.RankChoice.{RankChoice}
 use Rattle.f_tree.specs.declared.statement.RankChoice.TheVariants as rank
-use Rattle.f_tree.specs.Lexemes.{Front, mark_of, placed_mark, word_of, placed_word, name_of, when, each, behind_commas, listed, in_parentheses, key_of, if_there}
+use Rattle.f_tree.specs.declared.statement.Statement.{Statement, fold-Statement}
+use Rattle.f_tree.specs.declared.statement.Statement.TheOpen as open_
+use Rattle.f_tree.specs.declared.statement.Statement.TheOpen.{Statement-F, Case-F, DoConstruct-F, Else-F, ElseIf-F, IfConstruct-F, RankCase-F, SelectCase-F, SelectRank-F}
+use Rattle.f_tree.specs.declared.statement.Statement.TheFolds.{fold-Case, fold-DoConstruct, fold-Else, fold-ElseIf, fold-IfConstruct, fold-RankCase, fold-SelectCase, fold-SelectRank}
+use Rattle.f_tree.specs.declared.statement.Case.{Case}
+use Rattle.f_tree.specs.declared.statement.DoConstruct.{DoConstruct}
+use Rattle.f_tree.specs.declared.statement.Else.{Else}
+use Rattle.f_tree.specs.declared.statement.ElseIf.{ElseIf}
+use Rattle.f_tree.specs.declared.statement.IfConstruct.{IfConstruct}
+use Rattle.f_tree.specs.declared.statement.RankCase.{RankCase}
+use Rattle.f_tree.specs.declared.statement.SelectCase.{SelectCase}
+use Rattle.f_tree.specs.declared.statement.SelectRank.{SelectRank}
+use Rattle.f_tree.specs.Lexemes.{Front, mark_of, placed_mark, word_of, placed_word, name_of, when, optional, each, behind_commas, listed, in_parentheses, key_of, if_there, statement_end}
 use Rattle.f_tree.specs.Expressions.{expression, reference, argument}
+use Rattle.f_tree.specs.Declarations.{ending}
 
 abbrev pub call_arguments : List Argument → Front
 call_arguments xs rest = in_parentheses (listed (map argument xs)) rest
@@ -70,3 +83,93 @@ abbrev pub rank_choice : RankChoice → Front
 rank_choice rank.Default rest = word_of (codes "default") rest
 rank_choice (rank.Rank e) rest = in_parentheses (expression e) rest
 rank_choice (rank.AssumedSize p) rest = in_parentheses (placed_mark Star p) rest
+
+-- ---- constructs: each step has the tokens of its parts
+
+-- `if (condition)`
+abbrev pub condition_of : Expression → Front
+condition_of e rest = in_parentheses (expression e) rest
+
+abbrev pub statement_step : Statement-F Front Front Front Front Front Front Front Front Front → Front
+statement_step (open_.Action a) rest = action a (statement_end rest)
+statement_step (open_.IfAction p condition a) rest = placed_word (codes "if") p (condition_of condition (action a (statement_end rest)))
+statement_step (open_.If c) rest = c rest
+statement_step (open_.Do c) rest = c rest
+statement_step (open_.SelectCase c) rest = c rest
+statement_step (open_.SelectRank c) rest = c rest
+
+-- THEN and the end of its statement
+abbrev pub then_line : Front
+then_line rest = word_of (codes "then") (statement_end rest)
+
+abbrev pub if_step : IfConstruct-F Front Front Front Front Front Front Front Front Front → Front
+if_step c rest = placed_word (codes "if") c.place (condition_of c.condition (then_line (each c.body (each c.else_ifs (optional c.otherwise
+    (ending (codes "if") (codes "endif") c.ending rest))))))
+
+-- ELSE IF in one word or in two
+abbrev pub else_if_words : Bool → Place → Front
+else_if_words true p rest = placed_word (codes "elseif") p rest
+else_if_words false p rest = placed_word (codes "else") p (word_of (codes "if") rest)
+
+abbrev pub else_if_step : ElseIf-F Front Front Front Front Front Front Front Front Front → Front
+else_if_step c rest = else_if_words c.is_one_word c.place (condition_of c.condition (then_line (each c.body rest)))
+
+abbrev pub else_step : Else-F Front Front Front Front Front Front Front Front Front → Front
+else_step c rest = placed_word (codes "else") c.place (statement_end (each c.body rest))
+
+abbrev pub do_step : DoConstruct-F Front Front Front Front Front Front Front Front Front → Front
+do_step c rest = placed_word (codes "do") c.place (loop_control c.control (statement_end (each c.body (ending (codes "do") (codes "enddo") c.ending rest))))
+
+-- SELECT CASE in one word or in two
+abbrev pub select_words : Bool → Place → Front
+select_words true p rest = placed_word (codes "selectcase") p rest
+select_words false p rest = placed_word (codes "select") p (word_of (codes "case") rest)
+
+abbrev pub select_step : SelectCase-F Front Front Front Front Front Front Front Front Front → Front
+select_step c rest = select_words c.is_one_word c.place (condition_of c.selector (statement_end (each c.cases (ending (codes "select") (codes "endselect") c.ending rest))))
+
+abbrev pub case_step : Case-F Front Front Front Front Front Front Front Front Front → Front
+case_step c rest = placed_word (codes "case") c.place (case_choice c.choice (statement_end (each c.body rest)))
+
+-- the name that a selector has inside, and `=>`
+abbrev pub renamed_to : Name → Front
+renamed_to n rest = name_of n (mark_of Arrow rest)
+
+abbrev pub rank_selector : Option Name → Name → Front
+rank_selector renamed n rest = if_there renamed_to renamed (name_of n rest)
+
+abbrev pub select_rank_step : SelectRank-F Front Front Front Front Front Front Front Front Front → Front
+select_rank_step c rest = placed_word (codes "select") c.place (word_of (codes "rank") (in_parentheses (rank_selector c.renamed c.selector)
+    (statement_end (each c.ranks (ending (codes "select") (codes "endselect") c.ending rest)))))
+
+abbrev pub rank_step : RankCase-F Front Front Front Front Front Front Front Front Front → Front
+rank_step c rest = placed_word (codes "rank") c.place (rank_choice c.choice (statement_end (each c.body rest)))
+
+-- ---- the tokens of each tree, in front of a rest
+
+abbrev pub statement : Statement → Front
+statement = fold-Statement Front Front Front Front Front Front Front Front Front statement_step case_step do_step else_step else_if_step if_step rank_step select_step select_rank_step
+
+abbrev pub case_block : Case → Front
+case_block = fold-Case Front Front Front Front Front Front Front Front Front statement_step case_step do_step else_step else_if_step if_step rank_step select_step select_rank_step
+
+abbrev pub do_construct : DoConstruct → Front
+do_construct = fold-DoConstruct Front Front Front Front Front Front Front Front Front statement_step case_step do_step else_step else_if_step if_step rank_step select_step select_rank_step
+
+abbrev pub else_block : Else → Front
+else_block = fold-Else Front Front Front Front Front Front Front Front Front statement_step case_step do_step else_step else_if_step if_step rank_step select_step select_rank_step
+
+abbrev pub else_if : ElseIf → Front
+else_if = fold-ElseIf Front Front Front Front Front Front Front Front Front statement_step case_step do_step else_step else_if_step if_step rank_step select_step select_rank_step
+
+abbrev pub if_construct : IfConstruct → Front
+if_construct = fold-IfConstruct Front Front Front Front Front Front Front Front Front statement_step case_step do_step else_step else_if_step if_step rank_step select_step select_rank_step
+
+abbrev pub rank_block : RankCase → Front
+rank_block = fold-RankCase Front Front Front Front Front Front Front Front Front statement_step case_step do_step else_step else_if_step if_step rank_step select_step select_rank_step
+
+abbrev pub select_case : SelectCase → Front
+select_case = fold-SelectCase Front Front Front Front Front Front Front Front Front statement_step case_step do_step else_step else_if_step if_step rank_step select_step select_rank_step
+
+abbrev pub select_rank : SelectRank → Front
+select_rank = fold-SelectRank Front Front Front Front Front Front Front Front Front statement_step case_step do_step else_step else_if_step if_step rank_step select_step select_rank_step

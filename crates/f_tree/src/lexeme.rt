@@ -42,7 +42,8 @@ pub fn copy_bytes(alloc: Global, bytes: &List<u8>) -> Result<List<u8>, AllocErro
     Ok(List::from_vec(copy))
 }
 
-fn copy_kind(alloc: Global, kind: &Option<Kind>) -> Result<Option<Kind>, AllocError>
+/// A copy of a kind.
+pub fn copy_kind(alloc: Global, kind: &Option<Kind>) -> Result<Option<Kind>, AllocError>
     ensures { IfOk result (λ copy. copy ≡ kind.now) }
 {
     Ok(match kind {
@@ -61,6 +62,15 @@ impl Lexemes {
             backward: Vec::new(alloc),
             alloc,
         }
+    }
+
+    /// The lexemes from the first to the last.
+    pub fn into_vec(self) -> Vec<Lexeme>
+        ensures { result.items ≡ self }
+    {
+        let mut all = self.backward;
+        all.reverse();
+        all
     }
 
     /// Puts a token in front.

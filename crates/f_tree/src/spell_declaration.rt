@@ -311,11 +311,12 @@ fn put_intrinsic(out: &mut Lexemes, is_intrinsic: bool) -> Result<(), AllocError
 }
 
 impl Spell for Use {
-    ghost use Rattle.f_tree.specs.Declarations.{use_statement};
+    ghost use Rattle.f_tree.specs.Declarations.{use_line};
 
-    ghost spelled = { use_statement };
+    ghost spelled = { use_line };
 
     fn put(&self, out: &mut Lexemes) -> Result<(), AllocError> {
+        out.statement_end()?;
         put_use_list(out, &self.list)?;
         out.name(&self.module)?;
         put_colons(out, self.has_colons)?;

@@ -1,4 +1,4 @@
-use Rattle.std.proofs.Common.{◌≡◌, ◌<◌, ◌≤◌, ◌+◌, ◌-◌, get_or, length, sym, ◌∙◌, arith}
+use Rattle.std.proofs.Common.{◌≡◌, ◌<◌, ◌+◌, ◌-◌, get_or, length, sym, ◌∙◌, arith}
 use Rattle.f_tree.proofs.Steps.{each-step}
 use Rattle.f_tree.proofs.spell.put_each.Goals as goal
 

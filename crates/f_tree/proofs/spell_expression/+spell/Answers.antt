@@ -1,4 +1,4 @@
-use Rattle.std.proofs.Common.{◌≡◌, ◌<◌, ◌≤◌, ◌+◌, ◌-◌, get_or, length, sym, ◌∙◌, arith}
+use Rattle.std.proofs.Common.{◌≡◌, ◌<◌, ◌+◌, ◌-◌, get_or, length, sym, ◌∙◌, arith}
 use Rattle.f_tree.specs.Expressions.{expression, link, part, argument, parameter}
 use Rattle.f_tree.proofs.Steps.{each-step, listed-step, percents-step}
 use Rattle.f_tree.proofs.spell_expression.+spell.Goals as goal
