@@ -1,14 +1,13 @@
 -- What fits and is spelled before something that doesn't go on with it is read.
-use Rattle.std.proofs.Common.{◌≡◌, ℕ, zero, suc, ◌+◌, ◌<◌, ◌≤◌, Bool, true, false, List, [], ◌∷◌, length, Option, Some, None, refl, sym, ap, subst, ◌∙◌, arith, lit≤, lit<, ◌⊎◌, inl, inr}
+use Rattle.std.proofs.Common.{◌≡◌, ℕ, zero, suc, ◌<◌, ◌≤◌, List, [], ◌∷◌, length, Option, Some, None, refl, sym, ap, subst, ◌∙◌, arith, lit<, ◌⊎◌, inl, inr}
 use Rattle.std.specs.Prelude.{IfSome}
 use Rattle.c_tree.specs.declared.operator.BinaryOperator.{BinaryOperator}
 use Rattle.c_token.specs.declared.mark.Mark.TheVariants as mark
 use Rattle.c_condition.specs.declared.token.Token.{Token}
 use Rattle.c_condition.specs.declared.token.Token.TheVariants as token
-use Rattle.c_condition.specs.declared.marks.Opening.TheVariants as opening
 use Rattle.c_condition.specs.declared.marks.Joint.TheVariants as joint
-use Rattle.c_condition.specs.Grammar.{Expr, Constant, Name, Paren, Unary, Binary, Conditional, Comma, spell, binary_mark, unary_mark, binary_height, height, Fits}
-use Rattle.c_condition.specs.Reading.{choose, and_then, opening_of, joint_at, infix_at, behind, Algebra, Found, Inner, nested_at, operand_at, links_at, level_at, conditional_at, commas_at, whole_at, inner, ended, constant_at}
+use Rattle.c_condition.specs.Grammar.{Expr, Constant, Name, Paren, Unary, Binary, Conditional, Comma, spell, binary_mark, binary_height, height, Fits}
+use Rattle.c_condition.specs.Reading.{choose, and_then, joint_at, infix_at, behind, Algebra, Found, Inner, nested_at, operand_at, links_at, level_at, conditional_at, commas_at, whole_at, inner}
 use Rattle.c_condition.proofs.Folding.{fold, Within, infix_sound, behind_sound, Stops, stops_lower, stops_infix, infix_taken, infix_none, question_none, comma_none, opening_taken, height_positive, height_most}
 use Rattle.c_condition.proofs.Lengths.{longer}
 use Rattle.c_condition.proofs.Sound.{Reads, InnerSound, level_sound, conditional_sound, inner_sound}

@@ -1,10 +1,9 @@
 -- Spellings have a token or more.
-use Rattle.std.proofs.Common.{◌≡◌, ℕ, ◌<◌, ◌≤◌, List, [], ◌∷◌, length, arith}
+use Rattle.std.proofs.Common.{◌<◌, List, ◌∷◌, length, arith}
 use Rattle.c_token.specs.declared.mark.Mark.TheVariants as mark
-use Rattle.c_tree.specs.declared.operator.BinaryOperator.{BinaryOperator}
 use Rattle.c_condition.specs.declared.token.Token.{Token}
 use Rattle.c_condition.specs.declared.token.Token.TheVariants as token
-use Rattle.c_condition.specs.Grammar.{Expr, Constant, Name, Paren, Unary, Binary, Conditional, Comma, spell, unary_mark, binary_mark}
+use Rattle.c_condition.specs.Grammar.{Expr, Constant, Name, Paren, Unary, Binary, Conditional, Comma, spell, binary_mark}
 
 pub longer : (e : Expr) (rest : List Token) → length rest < length (spell e rest)
 longer (Constant n) rest = omega arith

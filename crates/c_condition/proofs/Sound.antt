@@ -1,7 +1,6 @@
 -- What is read is spelled so, fits, and is what the algebra makes of it.
-use Rattle.std.proofs.Common.{◌≡◌, ℕ, zero, suc, ◌+◌, ◌<◌, ◌≤◌, Bool, true, false, List, [], ◌∷◌, length, Option, Some, None, refl, sym, ap, subst, ◌∙◌, arith}
+use Rattle.std.proofs.Common.{◌≡◌, ℕ, zero, suc, ◌≤◌, List, [], ◌∷◌, length, Some, None, refl, ap, ◌∙◌, arith}
 use Rattle.std.specs.Prelude.{IfSome}
-use Rattle.c_tree.specs.declared.operator.BinaryOperator.{BinaryOperator}
 use Rattle.c_token.specs.declared.mark.Mark.{Mark}
 use Rattle.c_token.specs.declared.mark.Mark.TheVariants as mark
 use Rattle.c_condition.specs.declared.token.Token.{Token}
@@ -11,7 +10,7 @@ use Rattle.c_condition.specs.declared.marks.Opening.{Opening}
 use Rattle.c_condition.specs.declared.marks.Opening.TheVariants as opening
 use Rattle.c_condition.specs.declared.marks.Joint.TheVariants as joint
 use Rattle.c_condition.specs.Grammar.{Expr, Constant, Name, Paren, Unary, Binary, Conditional, Comma, spell, binary_mark, unary_mark, binary_height, height, Fits}
-use Rattle.c_condition.specs.Reading.{choose, and_then, opening_of, infix_at, behind, Algebra, Found, Inner, nested_at, operand_at, links_at, level_at, conditional_at, commas_at, whole_at, inner, ended, constant_at}
+use Rattle.c_condition.specs.Reading.{opening_of, infix_at, behind, Algebra, Found, Inner, nested_at, operand_at, links_at, level_at, conditional_at, commas_at, whole_at, inner}
 use Rattle.c_condition.proofs.Folding.{fold, Within, then_some, chosen_some, infix_sound, behind_sound, IsOpening, opening_sound}
 
 -- what was read, and what is left

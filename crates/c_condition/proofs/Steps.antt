@@ -1,8 +1,7 @@
 -- One step of each loop.
-use Rattle.std.proofs.Common.{◌≡◌, ℕ, zero, suc, ◌+◌, ◌-◌, ◌<◌, ◌≤◌, List, [], ◌∷◌, length, Option, Some, None, refl, sym, ap, subst, ◌∙◌, arith}
+use Rattle.std.proofs.Common.{◌≡◌, ℕ, zero, suc, ◌-◌, ◌<◌, ◌≤◌, List, ◌∷◌, length, Option, Some, None, refl, sym, ap, subst, ◌∙◌, arith}
 use Rattle.std.specs.Prelude.{IfSome}
 use Rattle.c_tree.specs.declared.operator.BinaryOperator.{BinaryOperator}
-use Rattle.c_token.specs.declared.mark.Mark.TheVariants as mark
 use Rattle.c_condition.specs.declared.token.Token.{Token}
 use Rattle.c_condition.specs.declared.token.Token.TheVariants as token
 use Rattle.c_condition.specs.declared.outcome.Outcome.{Outcome}
@@ -11,11 +10,11 @@ use Rattle.c_condition.specs.declared.marks.Joint.{Joint}
 use Rattle.c_condition.specs.declared.marks.Joint.TheVariants as joint
 use Rattle.c_condition.specs.Values.{conditional}
 use Rattle.c_condition.specs.Choices.{no_choice, choice_after, settled}
-use Rattle.c_condition.specs.Reading.{choose, and_then, infix_at, behind, Algebra, values, Found, Inner, operand_at, links_at, level_at, conditional_at, commas_at, whole_at, inner}
+use Rattle.c_condition.specs.Reading.{choose, and_then, infix_at, behind, Algebra, Found, Inner, operand_at, links_at, level_at, conditional_at, commas_at, whole_at, inner}
 use Rattle.c_condition.proofs.Choosing.{settled_after, settled_first}
 use Rattle.c_condition.proofs.Folding.{mark_of, behind_sound}
 use Rattle.c_condition.proofs.Lengths.{longer}
-use Rattle.c_condition.proofs.Sound.{Reads, Nests, InnerSound, level_sound, conditional_sound, inner_sound}
+use Rattle.c_condition.proofs.Sound.{Reads, Nests, level_sound, conditional_sound, inner_sound}
 use Rattle.c_condition.proofs.Complete.{infix_shorter}
 
 -- ---- heights and nestings

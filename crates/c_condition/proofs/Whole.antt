@@ -1,11 +1,11 @@
 -- Whole expressions, with nothing behind them.
-use Rattle.std.proofs.Common.{◌≡◌, ℕ, ◌≤◌, Bool, true, false, List, [], ◌∷◌, length, Option, Some, None, refl, sym, ap, subst, ◌∙◌, arith}
+use Rattle.std.proofs.Common.{◌≡◌, Bool, true, false, List, [], ◌∷◌, length, Option, Some, None, refl, sym, ap, subst, ◌∙◌, arith}
 use Rattle.std.specs.Prelude.{IfSome, MatchOption}
 use Rattle.c_condition.specs.declared.number.Number.{Number}
 use Rattle.c_condition.specs.declared.token.Token.{Token}
 use Rattle.c_condition.specs.declared.outcome.Outcome.{Outcome}
 use Rattle.c_condition.specs.Values.{value_of}
-use Rattle.c_condition.specs.Grammar.{Expr, spell, outcome, Fits, height, IsConstantExpression, Controls, ControlsNothing}
+use Rattle.c_condition.specs.Grammar.{Expr, spell, outcome, IsConstantExpression, Controls, ControlsNothing}
 use Rattle.c_condition.specs.Reading.{and_then, joint_at, Algebra, values, Found, inner, conditional_at, ended, constant_at}
 use Rattle.c_condition.proofs.Folding.{fold, trees, fold_trees, fold_values, Stops}
 use Rattle.c_condition.proofs.Sound.{Reads, inner_sound, conditional_sound}

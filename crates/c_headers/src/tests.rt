@@ -131,7 +131,7 @@ fn value(alloc: Global, header: Header, name: &str) -> Result<Option<u64>, Alloc
     let found = lexemes(alloc, text_of(header))?;
     for window in found.as_slice().windows(3) {
         if let [define, macro_name, body] = window {
-            if define.spelling.as_slice() == b"define"
+            if define.spelling.as_slice() == b"define".as_slice()
                 && macro_name.spelling.as_slice() == name.as_bytes()
             {
                 return Ok(match integer_constant(body.spelling.as_slice()) {

@@ -1,4 +1,4 @@
-use Rattle.std.proofs.Common.{◌≡◌, Option, sym, subst, ◌∙◌}
+use Rattle.std.proofs.Common.{Option, sym, subst}
 use Rattle.std.specs.Prelude.{MatchOption}
 use Rattle.c_condition.specs.declared.number.Number.{Number}
 use Rattle.c_condition.specs.Grammar.{Controls, ControlsNothing}

@@ -1,11 +1,7 @@
-use Rattle.std.proofs.Common.{◌≡◌, ◌<◌, ◌≤◌, ℕ, ◌-◌, List, length, Option, Some, None, refl, sym, ap, subst, ◌∙◌, arith, eqb}
-use Rattle.std.proofs.lemmas.Bool.{eqb-true}
-use Rattle.c_condition.specs.declared.token.Token.{Token}
-use Rattle.c_condition.specs.declared.outcome.Outcome.{Outcome}
+use Rattle.std.proofs.Common.{◌<◌, ◌≤◌, ◌-◌, length, Some, sym, ap, ◌∙◌, arith}
 use Rattle.c_condition.specs.declared.marks.Joint.TheVariants as joint
-use Rattle.c_condition.specs.Choices.{choice_after, settled}
-use Rattle.c_condition.specs.Reading.{and_then, infix_at, behind, values, Found, inner, operand_at, links_at, level_at, conditional_at, commas_at, whole_at}
-use Rattle.c_condition.proofs.Steps.{level_above, level_zero, whole_above, operand_above, whole_zero, operand_zero, level_shorter, conditional_shorter, behind_shorter, links_end, links_stuck, links_more, settled_found, settled_none, settled_next, conditional_stuck, conditional_end, middle_stuck, colon_stuck, last_shorter, conditional_more, commas_end, commas_stuck, commas_more, whole_read, whole_stuck}
+use Rattle.c_condition.specs.Reading.{and_then, values, inner, links_at, level_at, conditional_at, commas_at}
+use Rattle.c_condition.proofs.Steps.{level_above, level_zero, whole_above, operand_above, whole_zero, operand_zero, level_shorter, conditional_shorter, behind_shorter, links_end, links_stuck, links_more, settled_found, settled_next, conditional_stuck, conditional_end, middle_stuck, colon_stuck, last_shorter, conditional_more, commas_end, commas_stuck, commas_more, whole_read, whole_stuck}
 use Rattle.c_condition.proofs.Complete.{infix_shorter}
 use Rattle.c_condition.proofs.reader.+expression.Goals as goal
 
