@@ -1,7 +1,7 @@
-mod Choosing
-mod Complete
-mod Folding
-mod Lengths
-mod Sound
-mod Steps
-mod Whole
+pub mod Choosing
+pub mod Complete
+pub mod Folding
+pub mod Lengths
+pub mod Sound
+pub mod Steps
+pub mod Whole

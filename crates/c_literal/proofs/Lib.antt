@@ -1,4 +1,4 @@
-mod Elements
-mod IntegerLaws
-mod Runs
-mod Strings
+pub mod Elements
+pub mod IntegerLaws
+pub mod Runs
+pub mod Strings
