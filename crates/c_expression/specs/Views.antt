@@ -2,8 +2,7 @@
 use Rattle.std.specs.Prelude.{ℕ, List, [], ◌∷◌, Option, Some, None, Bool}
 use Rattle.c_tree.specs.declared.operator.BinaryOperator.{BinaryOperator}
 use Rattle.c_tree.specs.declared.operator.AssignOperator.{AssignOperator}
-use Rattle.c_tree.specs.declared.operator.Height.{Height}
-use Rattle.c_tree.specs.declared.operator.Height.TheVariants as height
+use Rattle.c_tree.specs.Heights.{rank}
 use Rattle.c_tree.specs.declared.expression.Core.{Core, fold-Core}
 use Rattle.c_tree.specs.declared.expression.Core.TheOpen as o
 use Rattle.c_tree.specs.declared.expression.Core.TheOpen.{Core-F, Expr-F, Parameters-F, Postfix-F, Specifier-F, Suffix-F, Choice-F, Declarator-F, Enumerator-F, Link-F, MemberDeclaration-F, Target-F, Typed-F}
@@ -21,29 +20,15 @@ use Rattle.c_tree.specs.declared.expression.MemberDeclaration.{MemberDeclaration
 use Rattle.c_tree.specs.declared.expression.Target.{Target}
 use Rattle.c_tree.specs.declared.expression.Typed.{Typed}
 use Rattle.c_grammar.specs.Grammar as g
+use Rattle.c_expression.specs.Parts.{onto}
 
 -- ---- lists
 
--- how many heights of operators bind tighter
-abbrev pub rank : Height → ℕ
-rank height.Multiplicative = 0
-rank height.Additive = 1
-rank height.Shift = 2
-rank height.Relational = 3
-rank height.Equality = 4
-rank height.BitAnd = 5
-rank height.BitXor = 6
-rank height.BitOr = 7
-rank height.And = 8
-rank height.Or = 9
-
 abbrev pub posts_of : List g.Post → g.Posts
-posts_of [] = g.no_posts
-posts_of (p ∷ ps) = g.post p (posts_of ps)
+posts_of ps = onto g.post ps g.no_posts
 
 abbrev pub links_of : List (BinaryOperator × g.Expr) → g.Links
-links_of [] = g.no_links
-links_of (l ∷ ls) = g.link (g.Infix l.0) l.1 (links_of ls)
+links_of ls = onto (λ l. g.link (g.Infix l.0) l.1) ls g.no_links
 
 -- the operands of conditional expressions: each test, and the last alternative
 abbrev pub first_test : List (g.Expr × g.Expr) → g.Expr → g.Expr
@@ -64,8 +49,7 @@ targets_of [] e = g.no_links
 targets_of (t ∷ ts) e = g.link (g.Assign t.1) (first_target ts e) (targets_of ts e)
 
 abbrev pub commas_of : List g.Expr → g.Links
-commas_of [] = g.no_links
-commas_of (e ∷ es) = g.link g.Comma e (commas_of es)
+commas_of es = onto (g.link g.Comma) es g.no_links
 
 -- arguments: several are spelled as the comma operator is
 abbrev pub arguments_of : List g.Expr → g.Post
@@ -74,12 +58,10 @@ arguments_of (e ∷ []) = g.Call e
 arguments_of (e ∷ f ∷ es) = g.Call (g.Chain 12 e (commas_of (f ∷ es)))
 
 abbrev pub specs_of : List g.Spec → g.Specs
-specs_of [] = g.no_specs
-specs_of (s ∷ ss) = g.spec s (specs_of ss)
+specs_of ss = onto g.spec ss g.no_specs
 
 abbrev pub decls_of : List g.Decl → g.Decls
-decls_of [] = g.no_decls
-decls_of (d ∷ ds) = g.another d (decls_of ds)
+decls_of ds = onto g.another ds g.no_decls
 
 -- What a list that may not be empty is seen by, where it is: this fits nowhere.
 abbrev pub misfit : g.Expr
@@ -90,24 +72,20 @@ declared_of ss [] = (g.typed g.no_specs (g.decl [] g.Absent g.no_suffixes), g.no
 declared_of ss (d ∷ ds) = (g.typed ss d, decls_of ds)
 
 abbrev pub members_of : List (g.Typed × g.Decls) → g.Members
-members_of [] = g.no_members
-members_of (m ∷ ms) = g.member m.0 m.1 (members_of ms)
+members_of ms = onto (λ m. g.member m.0 m.1) ms g.no_members
 
 abbrev pub items_of : List g.Item → g.Items
-items_of [] = g.no_items
-items_of (i ∷ is) = g.item i (items_of is)
+items_of is = onto g.item is g.no_items
 
 abbrev pub enum_of : Option ℕ → List g.Item → Bool → g.Spec
 enum_of tag [] c = g.Enum tag (g.Valued 0 misfit) g.no_items c
 enum_of tag (i ∷ is) c = g.Enum tag i (items_of is) c
 
 abbrev pub suffixes_of : List g.Suffix → g.Suffixes
-suffixes_of [] = g.no_suffixes
-suffixes_of (s ∷ ss) = g.suffix s (suffixes_of ss)
+suffixes_of ss = onto g.suffix ss g.no_suffixes
 
 abbrev pub more_of : List g.Typed → g.More
-more_of [] = g.no_more
-more_of (t ∷ ts) = g.param t (more_of ts)
+more_of ts = onto g.param ts g.no_more
 
 abbrev pub listed_of : List g.Typed → g.Params
 listed_of [] = g.Some_params (g.typed g.no_specs (g.decl [] g.Absent g.no_suffixes)) g.no_more
@@ -125,7 +103,7 @@ array_of (Some e) = g.Array e
 
 abbrev pub core_step : Core-F g.Core g.Expr g.Params g.Post g.Spec g.Suffix (g.Expr × g.Expr) g.Decl g.Item (BinaryOperator × g.Expr) (g.Typed × g.Decls) (g.Expr × AssignOperator) g.Typed → g.Core
 core_step o.Absent = g.Absent
-core_step (o.Name name at) = g.Id name
+core_step (o.Identifier name at) = g.Id name
 core_step (o.Group inner at) = g.Group inner
 
 abbrev pub expr_step : Expr-F g.Core g.Expr g.Params g.Post g.Spec g.Suffix (g.Expr × g.Expr) g.Decl g.Item (BinaryOperator × g.Expr) (g.Typed × g.Decls) (g.Expr × AssignOperator) g.Typed → g.Expr

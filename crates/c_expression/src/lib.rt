@@ -1,16 +1,9 @@
-//! Reads expressions, specifiers and declarators.
+//! Reads expressions, specifiers and declarators of C (ISO/IEC 9899:2011, 6.5 and 6.7).
 #![tactic(auto)]
 
-ghost use Rattle.std.specs.Prelude.{◌≡◌};
-ghost use Rattle.c_grammar.specs.Grammar as g;
-ghost use Rattle.c_expression.specs.Views.{view};
+mod declarator;
+mod expression;
+mod scope;
+mod single;
 
-use c_tree::Expr;
-use jf_base::Boxed;
-
-pub fn test(e: Expr, inner: Boxed<Expr>, at: u32) -> Expr
-    ensures { view result ≡ g.Paren (view inner) }
-{
-    let _ = e;
-    Expr::Parenthesized { inner, at }
-}
+pub use scope::Scope;

@@ -164,7 +164,7 @@ no_close s (_ ∷ ts) e = refl
 pub no_brace : (s : Scope) (ts : List Token) → starts_type s ts ≡ true → ends_braces ts ≡ false
 unfolding ends_braces
 no_brace s (token.BraceClose ∷ ts) e = absurd cc
-no_brace s [] e = refl
+no_brace s [] e = absurd cc
 no_brace s (_ ∷ ts) e = refl
 
 -- ---- what a declarator begins with

@@ -5,3 +5,5 @@ pub mod Stopping
 pub mod Steps
 pub mod Again
 pub mod OneTree
+pub mod Kept
+pub mod Shrinks

@@ -389,7 +389,7 @@ module _ (r : Inner) (n : ℕ) (i : SoundInner r n) where
   primary_sound s [] = tt
   primary_sound s (_ ∷ ts) = tt
 
-  abbrev IsPost : Scope → List Token → Post × List Token → Type 0
+  abbrev pub IsPost : Scope → List Token → Post × List Token → Type 0
   IsPost s ts x = (ts ≡ spell_post x.0 x.1) × FitsPost n s x.0
 
   index_sound : (s : Scope) (ts : List Token) → IfOk (index_at r s ts) (IsPost s (token.SquareOpen ∷ ts))
@@ -415,7 +415,7 @@ module _ (r : Inner) (n : ℕ) (i : SoundInner r n) where
       nothing_fits (suc n) s = tt
   call_sound s ts = arguments_sound s ts
 
-  post_sound : (s : Scope) (ts : List Token) → IfOk (post_at r s ts) (IsPost s ts)
+  pub post_sound : (s : Scope) (ts : List Token) → IfOk (post_at r s ts) (IsPost s ts)
   unfolding post_at
   post_sound s (token.SquareOpen ∷ ts) = index_sound s ts
   post_sound s (token.Open ∷ ts) = call_sound s ts
@@ -556,10 +556,10 @@ module _ (r : Inner) (n : ℕ) (i : SoundInner r n) where
 
   -- specifiers
 
-  abbrev AreDecls : Scope → List Token → Decls × List Token → Type 0
+  abbrev pub AreDecls : Scope → List Token → Decls × List Token → Type 0
   AreDecls s ts y = (ts ≡ spell_decls y.0 y.1) × FitsDecls n s y.0
 
-  decls_sound : (k : ℕ) (s : Scope) (ts : List Token) → IfOk (decls_at r k s ts) (AreDecls s ts)
+  pub decls_sound : (k : ℕ) (s : Scope) (ts : List Token) → IfOk (decls_at r k s ts) (AreDecls s ts)
   unfolding decls_at
   decls_sound zero s ts = (refl, tt)
   decls_sound (suc k) s ts =
@@ -582,7 +582,7 @@ module _ (r : Inner) (n : ℕ) (i : SoundInner r n) where
       ok_then (members_at r k (after_decls d.0 (after_typed x.0 s)) rest) _ (AreMembers (after_decls d.0 (after_typed x.0 s)) rest) _ (members_sound k (after_decls d.0 (after_typed x.0 s)) rest) (λ y q.
       (p.0 ∙ ap (spell_typed x.0) (m.0 ∙ ap (spell_decls d.0) (c ∙ ap (λ r. token.Semi ∷ r) q.0)), member_fits n s x.0 d.0 y.0 p.1 m.1 q.1))))))
 
-  abbrev IsSpec : Bool → Scope → List Token → Spec × List Token → Type 0
+  abbrev pub IsSpec : Bool → Scope → List Token → Spec × List Token → Type 0
   IsSpec based s ts x = (ts ≡ spell_spec x.0 x.1) × FitsSpec n based s x.0
 
   struct_body_sound : (based : Bool) (tag : Option ℕ) (s : Scope) (ts : List Token) → IfOk (struct_body_at r tag s ts) (IsSpec based s (token.Struct ∷ spell_tag tag (token.BraceOpen ∷ ts)))
@@ -601,7 +601,7 @@ module _ (r : Inner) (n : ℕ) (i : SoundInner r n) where
   struct_sound based s [] = tt
   struct_sound based s (_ ∷ ts) = tt
 
-  abbrev IsItem : Scope → List Token → Item × List Token → Type 0
+  abbrev pub IsItem : Scope → List Token → Item × List Token → Type 0
   IsItem s ts x = (ts ≡ spell_item x.0 x.1) × FitsItem n s x.0
 
   valued_sound : (k : ℕ) (s : Scope) (ts : List Token) → IfOk (valued_at r k s ts) (IsItem s (token.Name k ∷ token.Equals ∷ ts))
@@ -609,7 +609,7 @@ module _ (r : Inner) (n : ℕ) (i : SoundInner r n) where
   valued_sound k s ts =
       ok_then (r.expr 11 s ts) _ (InExpr 11 s ts) _ (i.expr 11 s ts) (λ x p. (ap (λ r. token.Name k ∷ token.Equals ∷ r) p.0, valued_fits n s k x.0 p.1))
 
-  item_sound : (s : Scope) (ts : List Token) → IfOk (item_at r s ts) (IsItem s ts)
+  pub item_sound : (s : Scope) (ts : List Token) → IfOk (item_at r s ts) (IsItem s ts)
   unfolding item_at
   item_sound s (token.Name k ∷ token.Equals ∷ ts) = valued_sound k s ts
   item_sound s (token.Name k ∷ []) = (refl, plain_fits n s k)
@@ -651,7 +651,7 @@ module _ (r : Inner) (n : ℕ) (i : SoundInner r n) where
   ranked_sound based s (token.Open ∷ token.Number k t ∷ token.Close ∷ ts) = tested (ltb k 16) _ _ _ (λ e. (refl, ltb-true k 16 e)) (λ e. tt)
   ranked_sound based s _ = tt
 
-  spec_sound : (based : Bool) (s : Scope) (ts : List Token) → begins_spec based s ts ≡ true → IfOk (spec_at r s ts) (IsSpec based s ts)
+  pub spec_sound : (based : Bool) (s : Scope) (ts : List Token) → begins_spec based s ts ≡ true → IfOk (spec_at r s ts) (IsSpec based s ts)
   unfolding spec_at
   spec_sound based s (token.Name k ∷ ts) e = (refl, begins_name based s k ts e)
   spec_sound based s (token.Word w ∷ ts) e = (refl, tt)
@@ -732,7 +732,7 @@ module _ (r : Inner) (n : ℕ) (i : SoundInner r n) where
       none_fit zero s = tt
       none_fit (suc n) s = tt
 
-  abbrev IsSuffix : Scope → List Token → Suffix × List Token → Type 0
+  abbrev pub IsSuffix : Scope → List Token → Suffix × List Token → Type 0
   IsSuffix s ts x = (ts ≡ spell_suffix x.0 x.1) × FitsSuffix n s x.0
 
   bound_sound : (s : Scope) (ts : List Token) → IfOk (bound_at r s ts) (IsSuffix s (token.SquareOpen ∷ ts))
@@ -742,7 +742,7 @@ module _ (r : Inner) (n : ℕ) (i : SoundInner r n) where
       ok_then (squared_at x.1) _ (λ rest. x.1 ≡ token.SquareClose ∷ rest) _ (squared_sound x.1) (λ rest c.
       (ap (λ r. token.SquareOpen ∷ r) (p.0 ∙ ap (spell x.0) c), array_fits n s x.0 p.1)))
 
-  array_sound : (s : Scope) (ts : List Token) → IfOk (array_at r s ts) (IsSuffix s (token.SquareOpen ∷ ts))
+  pub array_sound : (s : Scope) (ts : List Token) → IfOk (array_at r s ts) (IsSuffix s (token.SquareOpen ∷ ts))
   unfolding array_at
   array_sound s (token.SquareClose ∷ ts) = (refl, open_fits n s)
     where
@@ -751,7 +751,7 @@ module _ (r : Inner) (n : ℕ) (i : SoundInner r n) where
       open_fits (suc n) s = tt
   array_sound s ts = bound_sound s ts
 
-  function_sound : (s : Scope) (ts : List Token) → IfOk (function_at r s ts) (IsSuffix s (token.Open ∷ ts))
+  pub function_sound : (s : Scope) (ts : List Token) → IfOk (function_at r s ts) (IsSuffix s (token.Open ∷ ts))
   unfolding function_at
   function_sound s ts = ok_then (params_at r s ts) _ (AreParams s ts) _ (params_sound s ts) (λ x p. (ap (λ r. token.Open ∷ r) p.0, fits n s x.0 p.1))
     where

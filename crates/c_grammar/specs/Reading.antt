@@ -87,7 +87,9 @@ unfoldable pub comma_at : List Token → Option (List Token)
 comma_at (token.Comma ∷ ts) = Some ts
 comma_at ts = None
 
+-- what stands between braces ends here: at the closing one, or where the tokens end
 unfoldable pub ends_braces : List Token → Bool
+ends_braces [] = true
 ends_braces (token.BraceClose ∷ ts) = true
 ends_braces ts = false
 

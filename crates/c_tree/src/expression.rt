@@ -225,7 +225,7 @@ pub struct Declarator {
 pub enum Core {
     /// There is no name.
     Absent,
-    Name { name: u32, at: u32 },
+    Identifier { name: u32, at: u32 },
     /// A declarator in parentheses.
     Group { inner: Boxed<Declarator>, at: u32 },
 }

@@ -1,7 +1,7 @@
 //! Operators and words.
 
 ghost use Rattle.std.specs.Prelude.{◌≡◌};
-ghost use Rattle.c_tree.specs.Heights.{height_of};
+ghost use Rattle.c_tree.specs.Heights.{height_of, tighter};
 
 /// An operator before its operand (ISO/IEC 9899:2011, 6.5.3).
 #[derive(Clone, Copy, PartialEq, Eq)]
@@ -171,4 +171,24 @@ pub enum SpecifierWord {
     Unsigned,
     /// The type of descriptors, which the text of `<ISO_Fortran_binding.h>` names by a word of its own.
     Descriptor,
+}
+
+impl Height {
+    /// The height of the operators that bind next tighter.
+    pub fn tighter(self) -> Option<Height>
+        ensures { result ≡ tighter self }
+    {
+        match self {
+            Height::Multiplicative => None,
+            Height::Additive => Some(Height::Multiplicative),
+            Height::Shift => Some(Height::Additive),
+            Height::Relational => Some(Height::Shift),
+            Height::Equality => Some(Height::Relational),
+            Height::BitAnd => Some(Height::Equality),
+            Height::BitXor => Some(Height::BitAnd),
+            Height::BitOr => Some(Height::BitXor),
+            Height::And => Some(Height::BitOr),
+            Height::Or => Some(Height::And),
+        }
+    }
 }
