@@ -1,9 +1,9 @@
 //! From tokens to specifiers and declarators.
 
-ghost use Rattle.std.specs.Prelude.{◌≡◌, ◌∷◌, [], map, IfOk, length};
+ghost use Rattle.std.specs.Prelude.{◌≡◌, ◌∷◌, [], false, map, IfOk, length};
 ghost use Rattle.c_grammar.specs.Grammar.{Scope, starts_type, bind, name_of, name_of_core, is_typedef, is_base, or, inside, after_typed, after_specs, after_spec, after_decl, after_decls, after_core, after_item, after_items, after_members, after_suffix, after_suffixes, after_param, after_more, another, item, param, Struct, Enum};
 ghost use Rattle.c_grammar.specs.declared.token.Allowed.TheVariants.{Either};
-ghost use Rattle.c_grammar.specs.Reading.{◌>>=◌, Gives, inner, begins_spec, decls_at, members_at, struct_body_at, struct_at, valued_at, item_at, items_at, enum_body_at, enum_at, ranked_at, spec_at, specs_at, opens_list, takes_name, needs_name, group_at, core_at, more_at, list_at, params_at, bound_at, array_at, function_at, suffixes_at, decl_at, typed_at};
+ghost use Rattle.c_grammar.specs.Reading.{Gives, inner, begins_spec, decls_at, members_at, struct_body_at, struct_at, valued_at, item_at, items_at, enum_body_at, enum_at, ranked_at, spec_at, specs_at, opens_list, takes_name, needs_name, group_at, core_at, more_at, list_at, params_at, bound_at, array_at, function_at, suffixes_at, decl_at, typed_at};
 ghost use Rattle.c_expression.specs.Parts.{member_at, suffix_at, extend};
 ghost use Rattle.c_expression.specs.Views.{view, view_core, view_declarator, view_enumerator, view_member, view_parameters, view_specifier, view_suffix, view_typed, specs_of, decls_of, members_of, items_of, suffixes_of, more_of};
 
@@ -321,8 +321,8 @@ fn enumeration<'a>(
 /// The rank of a descriptor, behind the word at `at`.
 #[tactic(auto, unfolding(c_grammar::specs::Reading::ranked_at))]
 fn ranked<'a>(at: u32, scope: &Scope, tokens: &'a [Token]) -> Result<(Specifier, &'a [Token]), ReadError>
-    ensures { Gives (λ x. (view_specifier x.0, x.1.now)) result (ranked_at scope.now tokens.now) }
-    ensures scope { IfOk result (λ x. after_spec (view_specifier x.0) scope.now ≡ scope.now) }
+    ensures read { Gives (λ x. (view_specifier x.0, x.1.now)) result (ranked_at scope.now tokens.now) }
+    ensures nothing_declared { IfOk result (λ x. after_spec (view_specifier x.0) scope.now ≡ scope.now) }
 {
     match tokens {
         [Token::Open, Token::Number(rank, kind), Token::Close, rest @ ..] => {

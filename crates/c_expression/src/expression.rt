@@ -265,6 +265,7 @@ fn postfixes<'a>(
 }
 
 /// An operand with the operators behind it, where there are any.
+#[tactic(auto, using(crate::proofs::Nonempty::nonempty))]
 fn with_suffixes(
     alloc: Global,
     operand: Expr,
@@ -490,6 +491,7 @@ fn operand<'a>(
 }
 
 /// Operands of one height with operators between them, where there are any.
+#[tactic(auto, using(crate::proofs::Nonempty::nonempty))]
 fn chain(
     alloc: Global,
     height: Height,
@@ -639,6 +641,7 @@ pub fn assignment<'a>(
 }
 
 /// An expression with others behind commas, where there are any.
+#[tactic(auto, using(crate::proofs::Nonempty::nonempty))]
 fn with_commas(
     alloc: Global,
     first: Expr,

@@ -7,9 +7,9 @@ use Rattle.c_grammar.specs.declared.token.Token.{Token}
 use Rattle.c_grammar.specs.declared.token.Token.TheVariants as token
 use Rattle.c_grammar.specs.declared.fault.Fault.{Fault}
 use Rattle.c_grammar.specs.Grammar.{Scope, Expr, Post, Typed, Spec, Item, Decl, Decls, Suffix, spell, spell_post, spell_typed, spell_spec, spell_item, spell_decl, spell_suffix}
-use Rattle.c_grammar.specs.Reading.{Inner, Read, inner, level_at, post_at, typed_at, spec_at, item_at, decl_at, array_at, function_at, begins_spec}
-use Rattle.c_grammar.proofs.Sound.{SoundInner, IsPost, IsSpec, IsItem, IsSuffix, inner_sound, level_sound, post_sound, typed_sound, spec_sound, item_sound, decl_sound, array_sound, function_sound}
-use Rattle.c_grammar.proofs.Lengths.{grows, grows_post, grows_typed, grows_spec, grows_item, grows_decl, grows_suffix}
+use Rattle.c_grammar.specs.Reading.{Inner, Read, inner, level_at, post_at, typed_at, spec_at, item_at, decl_at, array_at, function_at, begins_spec, colon_at, semi_at, decls_at}
+use Rattle.c_grammar.proofs.Sound.{SoundInner, IsPost, IsSpec, IsItem, IsSuffix, inner_sound, level_sound, post_sound, typed_sound, spec_sound, item_sound, decl_sound, array_sound, function_sound, colon_sound, semi_sound, decls_sound}
+use Rattle.c_grammar.proofs.Lengths.{grows, grows_post, grows_typed, grows_spec, grows_item, grows_decl, grows_decls, grows_suffix}
 
 pub holds : {A : Type 0} (m : Result A Fault) (P : A → Type 0) (x : A) → IfOk m P → m ≡ Ok x → P x
 holds (Ok y) P x p e = let same : y ≡ x = cc in subst P same p
@@ -54,3 +54,23 @@ pub function_shrinks : (n : ℕ) (s : Scope) (ts rest : List Token) (x : Suffix)
 function_shrinks n s ts rest x is =
     let p = holds (function_at (inner n) s ts) _ (x, rest) (function_sound (inner n) n (inner_sound n) s ts) is in
     omega (arith, ap length p.0, grows_suffix x rest)
+
+pub expr_in_shrinks : (n h : ℕ) (s : Scope) (ts rest : List Token) (e : Expr) → (inner n).expr h s ts ≡ Ok (e, rest) → length rest ≤ length ts
+expr_in_shrinks n h s ts rest e is =
+    let p = holds ((inner n).expr h s ts) _ (e, rest) ((inner_sound n).expr h s ts) is in
+    omega (arith, ap length p.0, grows e rest)
+
+pub colon_shrinks : (ts rest : List Token) → colon_at ts ≡ Ok rest → length rest ≤ length ts
+colon_shrinks ts rest is =
+    let p = holds (colon_at ts) _ rest (colon_sound ts) is in
+    omega (arith, ap length p)
+
+pub semi_shrinks : (ts rest : List Token) → semi_at ts ≡ Ok rest → length rest < length ts
+semi_shrinks ts rest is =
+    let p = holds (semi_at ts) _ rest (semi_sound ts) is in
+    omega (arith, ap length p)
+
+pub decls_shrink : (n k : ℕ) (s : Scope) (ts rest : List Token) (x : Decls) → decls_at (inner n) k s ts ≡ Ok (x, rest) → length rest ≤ length ts
+decls_shrink n k s ts rest x is =
+    let p = holds (decls_at (inner n) k s ts) _ (x, rest) (decls_sound (inner n) n (inner_sound n) k s ts) is in
+    omega (arith, ap length p.0, grows_decls x rest)

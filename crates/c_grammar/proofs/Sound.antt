@@ -84,7 +84,7 @@ unfolding void_at
 void_sound (token.Word word.Void ∷ token.Close ∷ ts) = refl
 void_sound _ = refl
 
-colon_sound : (ts : List Token) → IfOk (colon_at ts) (λ rest. ts ≡ token.Colon ∷ rest)
+pub colon_sound : (ts : List Token) → IfOk (colon_at ts) (λ rest. ts ≡ token.Colon ∷ rest)
 unfolding colon_at
 colon_sound (token.Colon ∷ ts) = refl
 colon_sound [] = tt
