@@ -199,7 +199,7 @@ unfolding next_item
 next_sound (token.Comma ∷ token.Name k ∷ ts) = refl
 next_sound _ = tt
 
-last_sound : (ts : List Token) → ts ≡ spell_comma (last_comma ts).0 (last_comma ts).1
+pub last_sound : (ts : List Token) → ts ≡ spell_comma (last_comma ts).0 (last_comma ts).1
 unfolding last_comma
 last_sound (token.Comma ∷ ts) = refl
 last_sound _ = refl

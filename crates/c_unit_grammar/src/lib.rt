@@ -3,4 +3,7 @@
 
 mod laws;
 
-pub use laws::{what_is_read_is_external, what_is_read_is_statement};
+pub use laws::{
+    a_file_tells_its_first_fault, one_external_tree, one_statement_tree, what_is_external_is_read,
+    what_is_read_is_external, what_is_read_is_statement, what_is_statement_is_read,
+};
