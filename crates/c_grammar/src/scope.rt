@@ -31,7 +31,10 @@ pub fn starts_type(scope: &[Binding], tokens: &[Token]) -> bool
 {
     match tokens {
         [Token::Name(name), ..] => is_type(scope, *name),
-        [Token::Word(_) | Token::Struct | Token::Enum | Token::DescriptorOfRank, ..] => true,
+        [
+            Token::Word(_) | Token::Struct | Token::Enum | Token::DescriptorOfRank,
+            ..
+        ] => true,
         _ => false,
     }
 }
