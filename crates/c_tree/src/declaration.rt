@@ -5,7 +5,7 @@ use jf_base::List;
 
 /// An initial value (ISO/IEC 9899:2011, 6.7.9).
 #[cycle(initial)]
-#[derive(Debug, Drop)]
+#[derive(Drop)]
 pub enum Initializer {
     Value(Expr),
     /// `{ items [,] }`, of which there is one at least.
@@ -17,7 +17,7 @@ pub enum Initializer {
 }
 
 /// A declarator with its initial value, where it has one (ISO/IEC 9899:2011, 6.7).
-#[derive(Debug, Drop)]
+#[derive(Drop)]
 pub struct InitDeclarator {
     pub declarator: Declarator,
     pub value: Option<Initializer>,
@@ -25,7 +25,7 @@ pub struct InitDeclarator {
 }
 
 /// A declaration: specifiers, one at least, and declarators (ISO/IEC 9899:2011, 6.7).
-#[derive(Debug, Drop)]
+#[derive(Drop)]
 pub struct Declaration {
     pub specifiers: List<Specifier>,
     pub declarators: List<InitDeclarator>,

@@ -8,7 +8,7 @@ use jf_base::{Boxed, List};
 
 /// An expression (ISO/IEC 9899:2011, 6.5). Names are told by their numbers in the unit's table.
 #[cycle(tree)]
-#[derive(Debug, Drop)]
+#[derive(Drop)]
 pub enum Expr {
     /// A name of an object, a function or an enumerator (6.5.1).
     Name {
@@ -26,9 +26,10 @@ pub enum Expr {
         value: u8,
         at: u32,
     },
-    /// String literals that stand side by side, with their escape sequences read and without the zero behind them (6.4.5).
+    /// String literals that stand side by side, told by their numbers in the unit's table (6.4.5).
     Text {
-        bytes: List<u8>,
+        first: u32,
+        others: List<u32>,
         at: u32,
     },
     /// An expression in parentheses (6.5.1).
@@ -93,7 +94,7 @@ pub enum Expr {
 
 /// A postfix operator (ISO/IEC 9899:2011, 6.5.2).
 #[cycle(tree)]
-#[derive(Debug, Drop)]
+#[derive(Drop)]
 pub enum Postfix {
     /// `[index]`
     Index { index: Expr, at: u32 },
@@ -111,7 +112,7 @@ pub enum Postfix {
 
 /// A binary operator and its right operand.
 #[cycle(tree)]
-#[derive(Debug, Drop)]
+#[derive(Drop)]
 pub struct Link {
     pub operator: BinaryOperator,
     pub right: Expr,
@@ -120,7 +121,7 @@ pub struct Link {
 
 /// `test ? value :` of a conditional expression.
 #[cycle(tree)]
-#[derive(Debug, Drop)]
+#[derive(Drop)]
 pub struct Choice {
     pub test: Expr,
     pub value: Expr,
@@ -129,7 +130,7 @@ pub struct Choice {
 
 /// The left operand and the operator of an assignment.
 #[cycle(tree)]
-#[derive(Debug, Drop)]
+#[derive(Drop)]
 pub struct Target {
     pub place: Expr,
     pub operator: AssignOperator,
@@ -138,7 +139,7 @@ pub struct Target {
 
 /// Specifiers and one declarator: a parameter, or the name of a type (ISO/IEC 9899:2011, 6.7.6 and 6.7.7).
 #[cycle(tree)]
-#[derive(Debug, Drop)]
+#[derive(Drop)]
 pub struct Typed {
     pub specifiers: List<Specifier>,
     pub declarator: Declarator,
@@ -147,7 +148,7 @@ pub struct Typed {
 
 /// A specifier (ISO/IEC 9899:2011, 6.7.1 to 6.7.3).
 #[cycle(tree)]
-#[derive(Debug, Drop)]
+#[derive(Drop)]
 pub enum Specifier {
     Word {
         word: SpecifierWord,
@@ -181,16 +182,17 @@ pub enum Specifier {
         name: u32,
         at: u32,
     },
-    /// `CFI_CDESC_T(rank)`
+    /// `CFI_CDESC_T(rank)`, where the rank is an integer constant of some type, and at most 15.
     DescriptorOfRank {
-        rank: u8,
+        rank: u64,
+        kind: ConstantType,
         at: u32,
     },
 }
 
 /// Members of a struct that are declared together, one at least (ISO/IEC 9899:2011, 6.7.2.1).
 #[cycle(tree)]
-#[derive(Debug, Drop)]
+#[derive(Drop)]
 pub struct MemberDeclaration {
     pub specifiers: List<Specifier>,
     pub declarators: List<Declarator>,
@@ -199,7 +201,7 @@ pub struct MemberDeclaration {
 
 /// An enumerator (ISO/IEC 9899:2011, 6.7.2.2).
 #[cycle(tree)]
-#[derive(Debug, Drop)]
+#[derive(Drop)]
 pub struct Enumerator {
     pub name: u32,
     pub value: Option<Boxed<Expr>>,
@@ -209,7 +211,7 @@ pub struct Enumerator {
 /// A declarator, with a name or without: stars and qualifiers, of which the first is a star, the core, and what stands behind it
 /// (ISO/IEC 9899:2011, 6.7.6 and 6.7.7).
 #[cycle(tree)]
-#[derive(Debug, Drop)]
+#[derive(Drop)]
 pub struct Declarator {
     pub marks: List<PointerMark>,
     pub core: Core,
@@ -219,18 +221,18 @@ pub struct Declarator {
 
 /// What a declarator is around.
 #[cycle(tree)]
-#[derive(Debug, Drop)]
+#[derive(Drop)]
 pub enum Core {
     /// There is no name.
     Absent,
-    Name { name: u32, at: u32 },
+    Identifier { name: u32, at: u32 },
     /// A declarator in parentheses.
     Group { inner: Boxed<Declarator>, at: u32 },
 }
 
 /// An array or a function (ISO/IEC 9899:2011, 6.7.6.2 and 6.7.6.3).
 #[cycle(tree)]
-#[derive(Debug, Drop)]
+#[derive(Drop)]
 pub enum Suffix {
     Array {
         length: Option<Boxed<Expr>>,
@@ -244,7 +246,7 @@ pub enum Suffix {
 
 /// The parameters of a function (ISO/IEC 9899:2011, 6.7.6.3).
 #[cycle(tree)]
-#[derive(Debug, Drop)]
+#[derive(Drop)]
 pub enum Parameters {
     /// `()`
     Nothing,

@@ -1,10 +1,10 @@
 //! Operators and words.
 
 ghost use Rattle.std.specs.Prelude.{◌≡◌};
-ghost use Rattle.c_tree.specs.Heights.{height_of};
+ghost use Rattle.c_tree.specs.Heights.{height_of, tighter};
 
 /// An operator before its operand (ISO/IEC 9899:2011, 6.5.3).
-#[derive(Clone, Copy, PartialEq, Eq, Debug)]
+#[derive(Clone, Copy, PartialEq, Eq)]
 pub enum PrefixOperator {
     /// `++`
     Increment,
@@ -25,7 +25,7 @@ pub enum PrefixOperator {
 }
 
 /// An operator between two operands that groups from the left (ISO/IEC 9899:2011, 6.5.5 to 6.5.14).
-#[derive(Clone, Copy, PartialEq, Eq, Debug)]
+#[derive(Clone, Copy, PartialEq, Eq)]
 pub enum BinaryOperator {
     /// `*`
     Times,
@@ -66,7 +66,7 @@ pub enum BinaryOperator {
 }
 
 /// How tightly a binary operator binds, from the tightest on: the productions of ISO/IEC 9899:2011, 6.5.5 to 6.5.14.
-#[derive(Clone, Copy, PartialEq, Eq, Debug)]
+#[derive(Clone, Copy, PartialEq, Eq)]
 pub enum Height {
     Multiplicative,
     Additive,
@@ -106,7 +106,7 @@ impl BinaryOperator {
 }
 
 /// An operator of an assignment (ISO/IEC 9899:2011, 6.5.16).
-#[derive(Clone, Copy, PartialEq, Eq, Debug)]
+#[derive(Clone, Copy, PartialEq, Eq)]
 pub enum AssignOperator {
     /// `=`
     Set,
@@ -133,7 +133,7 @@ pub enum AssignOperator {
 }
 
 /// The type of an integer constant (ISO/IEC 9899:2011, 6.4.4.1).
-#[derive(Clone, Copy, PartialEq, Eq, Debug)]
+#[derive(Clone, Copy, PartialEq, Eq)]
 pub enum ConstantType {
     Int,
     UnsignedInt,
@@ -144,7 +144,7 @@ pub enum ConstantType {
 }
 
 /// What stands between a declarator's stars and its name (ISO/IEC 9899:2011, 6.7.6).
-#[derive(Clone, Copy, PartialEq, Eq, Debug)]
+#[derive(Clone, Copy, PartialEq, Eq)]
 pub enum PointerMark {
     /// `*`
     Star,
@@ -155,7 +155,7 @@ pub enum PointerMark {
 }
 
 /// A specifier of one word (ISO/IEC 9899:2011, 6.7.1 to 6.7.3).
-#[derive(Clone, Copy, PartialEq, Eq, Debug)]
+#[derive(Clone, Copy, PartialEq, Eq)]
 pub enum SpecifierWord {
     Typedef,
     Extern,
@@ -171,4 +171,24 @@ pub enum SpecifierWord {
     Unsigned,
     /// The type of descriptors, which the text of `<ISO_Fortran_binding.h>` names by a word of its own.
     Descriptor,
+}
+
+impl Height {
+    /// The height of the operators that bind next tighter.
+    pub fn tighter(self) -> Option<Height>
+        ensures { result ≡ tighter self }
+    {
+        match self {
+            Height::Multiplicative => None,
+            Height::Additive => Some(Height::Multiplicative),
+            Height::Shift => Some(Height::Additive),
+            Height::Relational => Some(Height::Shift),
+            Height::Equality => Some(Height::Relational),
+            Height::BitAnd => Some(Height::Equality),
+            Height::BitXor => Some(Height::BitAnd),
+            Height::BitOr => Some(Height::BitXor),
+            Height::And => Some(Height::BitOr),
+            Height::Or => Some(Height::And),
+        }
+    }
 }

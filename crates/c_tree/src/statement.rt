@@ -6,7 +6,7 @@ use jf_base::{Boxed, List};
 
 /// A statement (ISO/IEC 9899:2011, 6.8).
 #[cycle(statement)]
-#[derive(Debug, Drop)]
+#[derive(Drop)]
 pub enum Statement {
     Block {
         items: List<BlockItem>,
@@ -68,14 +68,14 @@ pub enum Statement {
 
 /// What stands in a block (ISO/IEC 9899:2011, 6.8.2).
 #[cycle(statement)]
-#[derive(Debug, Drop)]
+#[derive(Drop)]
 pub enum BlockItem {
     Declaration(Declaration),
     Statement(Statement),
 }
 
 /// What a `for` begins with (ISO/IEC 9899:2011, 6.8.5.3).
-#[derive(Debug, Drop)]
+#[derive(Drop)]
 pub enum ForStart {
     Declaration(Declaration),
     Expression(Option<Expr>),

@@ -24,6 +24,7 @@ fn unit(alloc: Global) -> Result<CUnit, AllocError> {
     places.push(PLACE)?;
     Ok(CUnit {
         names: List::from_vec(Vec::new(alloc)),
+        literals: List::from_vec(Vec::new(alloc)),
         places,
         externals: List::from_vec(Vec::new(alloc)),
     })

@@ -10,22 +10,25 @@ use crate::statement::BlockItem;
 use jf_base::{List, Place};
 
 /// An external declaration (ISO/IEC 9899:2011, 6.9).
-#[derive(Debug, Drop)]
+#[derive(Drop)]
 pub enum External {
     Declaration(Declaration),
-    /// A function's definition.
+    /// A function's definition, and how many tokens it has.
     Function {
         specifiers: List<Specifier>,
         declarator: Declarator,
         body: List<BlockItem>,
+        tokens: u32,
         at: u32,
     },
 }
 
-/// A C file as it was read: the spellings of its names by their numbers, the places of its tokens by theirs, and its external declarations.
-#[derive(Debug, Drop)]
+/// A C file as it was read: the spellings of its names and the bytes of its string literals by their numbers, the places of its tokens by
+/// theirs, and its external declarations. A literal's bytes have its escape sequences read, and no zero behind them.
+#[derive(Drop)]
 pub struct CUnit {
     pub names: List<List<u8>>,
+    pub literals: List<List<u8>>,
     pub places: List<Place>,
     pub externals: List<External>,
 }
@@ -40,7 +43,7 @@ impl CUnit {
 }
 
 /// The C files of a program, in their order.
-#[derive(Debug, Drop)]
+#[derive(Drop)]
 pub struct CProgram {
     pub units: List<CUnit>,
 }

@@ -1,0 +1,9 @@
+pub mod Sound
+pub mod Lengths
+pub mod Beginnings
+pub mod Stopping
+pub mod Steps
+pub mod Again
+pub mod OneTree
+pub mod Kept
+pub mod Shrinks

@@ -1,0 +1,6 @@
+use Rattle.c_grammar.specs.Reading.{inner}
+use Rattle.c_grammar.proofs.Sound.{level_sound, inner_sound}
+use Rattle.c_grammar.proofs.laws.what_is_read_fits.Goals as goal
+
+pub returns : goal.returns
+returns c = λ n. level_sound (inner n) n (inner_sound n)

@@ -1,6 +1,0 @@
-use Rattle.c_read.specs.Reading.{inner}
-use Rattle.c_read.proofs.Sound.{level_sound, inner_sound}
-use Rattle.c_read.proofs.laws.what_is_read_fits.Goals as goal
-
-pub returns : goal.returns
-returns c = λ n. level_sound (inner n) n (inner_sound n)

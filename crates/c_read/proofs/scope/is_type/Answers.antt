@@ -1,7 +1,0 @@
-use Rattle.std.proofs.Common.{refl}
-use Rattle.c_read.specs.Grammar.{is_type}
-use Rattle.c_read.proofs.scope.is_type.Goals as goal
-
-pub loop-binding-init : goal.loop-binding-init
-unfolding is_type
-loop-binding-init c = refl

@@ -1,0 +1,5 @@
+pub mod Sound
+pub mod Lengths
+pub mod Beginnings
+pub mod Again
+pub mod File
