@@ -26,7 +26,7 @@ none_set r (token.Mark mark.Arrow ∷ ts) e = absurd (cc e)
 none_set r [] e = refl
 none_set r (_ ∷ ts) e = refl
 
-no_target : (n : ℕ) (ts : List Token) → sets_at 0 ts ≡ false → target_at n ts ≡ None
+pub no_target : (n : ℕ) (ts : List Token) → sets_at 0 ts ≡ false → target_at n ts ≡ None
 unfolding target_at
 no_target n ts e = pick (refer_at (expr_at n) ts) (refer_sound (expr_at n) n (expr_sound n) ts)
   where
@@ -34,26 +34,26 @@ no_target n ts e = pick (refer_at (expr_at n) ts) (refer_sound (expr_at n) n (ex
     pick None p = refl
     pick (Some x) p = none_set x.0 x.1 (sym (ap (sets_at 0) p.0 ∙ sets_refer x.0 n 0 x.1 p.1) ∙ e)
 
-sets_within : (e : Expr) (n d : ℕ) (rest : List Token) → Within n e → sets_at d (spell e rest) ≡ sets_at d rest
+pub sets_within : (e : Expr) (n d : ℕ) (rest : List Token) → Within n e → sets_at d (spell e rest) ≡ sets_at d rest
 sets_within e zero d rest w = absurd w
 sets_within e (suc n) d rest w = sets_expr e n 9 d rest w (omega arith)
 
-sets_refs : (rs : Refs) (n d : ℕ) (rest : List Token) → FitsRefs n rs → sets_at d (spell_refs rs rest) ≡ sets_at d rest
+pub sets_refs : (rs : Refs) (n d : ℕ) (rest : List Token) → FitsRefs n rs → sets_at d (spell_refs rs rest) ≡ sets_at d rest
 unfolding sets_at
 sets_refs no_refs n d rest f = refl
 sets_refs (ref r rs) n d rest f = sets_refer r n d (spell_refs rs rest) f.0 ∙ sets_refs rs n d rest f.1
 
-sets_exprs : (es : Exprs) (n d : ℕ) (rest : List Token) → FitsExprs n es → sets_at d (spell_exprs es rest) ≡ sets_at d rest
+pub sets_exprs : (es : Exprs) (n d : ℕ) (rest : List Token) → FitsExprs n es → sets_at d (spell_exprs es rest) ≡ sets_at d rest
 unfolding sets_at
 sets_exprs no_exprs n d rest f = refl
 sets_exprs (expr e es) n d rest f = sets_within e n d (spell_exprs es rest) f.0 ∙ sets_exprs es n d rest f.1
 
-sets_status : (word : List ℕ) (s : Status) (n d : ℕ) (rest : List Token) → FitsStatus n s → sets_at (suc d) (spell_status word s rest) ≡ sets_at (suc d) rest
+pub sets_status : (word : List ℕ) (s : Status) (n d : ℕ) (rest : List Token) → FitsStatus n s → sets_at (suc d) (spell_status word s rest) ≡ sets_at (suc d) rest
 unfolding sets_at
 sets_status word NoStatus n d rest f = refl
 sets_status word (status r) n d rest f = sets_refer r n (suc d) rest f
 
-sets_objects : (r : Refer) (rs : Refs) (s : Status) (n : ℕ) → FitsRefer n r → FitsRefs n rs → FitsStatus n s → sets_at 0 (spell_objects r rs s) ≡ false
+pub sets_objects : (r : Refer) (rs : Refs) (s : Status) (n : ℕ) → FitsRefer n r → FitsRefs n rs → FitsStatus n s → sets_at 0 (spell_objects r rs s) ≡ false
 unfolding sets_at
 sets_objects r rs s n f g h = sets_refer r n 1 _ f ∙ sets_refs rs n 1 _ g ∙ sets_status (codes "stat") s n 0 (put mark.Close []) h
 
@@ -165,11 +165,11 @@ assign_step : (n : ℕ) (ts r : List Token) (target : Refer) (b : Bool) (value :
 unfolding act_at value_at ends_at
 assign_step n ts r target b value e1 e2 = rw (e1, e2) refl
 
-target_assign : (n : ℕ) (r : Refer) (rest : List Token) → FitsRefer n r → target_at n (spell_refer r (put mark.Assign rest)) ≡ Some (r, false, rest)
+pub target_assign : (n : ℕ) (r : Refer) (rest : List Token) → FitsRefer n r → target_at n (spell_refer r (put mark.Assign rest)) ≡ Some (r, false, rest)
 unfolding target_at set_behind assign_at
 target_assign n r rest f = rw (refer_again r n (put mark.Assign rest) f (omega arith)) refl
 
-target_arrow : (n : ℕ) (r : Refer) (rest : List Token) → FitsRefer n r → target_at n (spell_refer r (put mark.Arrow rest)) ≡ Some (r, true, rest)
+pub target_arrow : (n : ℕ) (r : Refer) (rest : List Token) → FitsRefer n r → target_at n (spell_refer r (put mark.Arrow rest)) ≡ Some (r, true, rest)
 unfolding target_at set_behind assign_at arrow_at
 target_arrow n r rest f = rw (refer_again r n (put mark.Arrow rest) f (omega arith)) refl
 

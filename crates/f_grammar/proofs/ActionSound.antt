@@ -26,13 +26,13 @@ assign_sound (token.Mark mark.Assign ∷ ts) = refl
 assign_sound (_ ∷ ts) = tt
 assign_sound [] = tt
 
-arrow_sound : (ts : List Token) → IfSome (arrow_at ts) (λ r. ts ≡ put mark.Arrow r)
+pub arrow_sound : (ts : List Token) → IfSome (arrow_at ts) (λ r. ts ≡ put mark.Arrow r)
 unfolding arrow_at
 arrow_sound (token.Mark mark.Arrow ∷ ts) = refl
 arrow_sound (_ ∷ ts) = tt
 arrow_sound [] = tt
 
-abbrev set_mark : Bool → Mark
+abbrev pub set_mark : Bool → Mark
 set_mark true = mark.Arrow
 set_mark false = mark.Assign
 
@@ -40,20 +40,20 @@ module _ (n : ℕ) where
   refer_is : (ts : List Token) → IfSome (refer_at (expr_at n) ts) (AsRefer n ts)
   refer_is ts = refer_sound (expr_at n) n (expr_sound n) ts
 
-  abbrev IsTarget : List Token → Target → Type 0
+  abbrev pub IsTarget : List Token → Target → Type 0
   IsTarget ts t = (ts ≡ spell_refer t.0 (put (set_mark t.1) t.2)) × FitsRefer n t.0
 
-  abbrev IsAct : List Token → Act → Type 0
+  abbrev pub IsAct : List Token → Act → Type 0
   IsAct ts a = (ts ≡ spell_act a) × FitsAct n a
 
-  target_sound : (ts : List Token) → IfSome (target_at n ts) (IsTarget ts)
+  pub target_sound : (ts : List Token) → IfSome (target_at n ts) (IsTarget ts)
   unfolding target_at set_behind
   target_sound ts = then (refer_at (expr_at n) ts) _ (AsRefer n ts) _ (refer_is ts) (λ x p.
       chosen (assign_at x.1) _ _ (λ r. x.1 ≡ put mark.Assign r) (IsTarget ts) (assign_sound x.1)
       (chosen (arrow_at x.1) None (λ r. Some (x.0, true, r)) (λ r. x.1 ≡ put mark.Arrow r) (IsTarget ts) (arrow_sound x.1) tt (λ r i. (p.0 ∙ ap (spell_refer x.0) i, p.1)))
       (λ r i. (p.0 ∙ ap (spell_refer x.0) i, p.1)))
 
-  value_sound : (ts : List Token) (t : Target) → IsTarget ts t → IfSome (value_at n t) (IsAct ts)
+  pub value_sound : (ts : List Token) (t : Target) → IsTarget ts t → IfSome (value_at n t) (IsAct ts)
   unfolding value_at
   value_sound ts t i = then (expr_at n t.2) _ (IsInside n t.2) _ (expr_sound n t.2) (λ x p. ends_then (set_by t.1 t.0 x.0) x.1 (IsAct ts) (λ e. set t.1 i.0 x.0 (p.0 ∙ ap (spell x.0) e) p.1))
     where
@@ -96,7 +96,7 @@ module _ (n : ℕ) where
       (i ∙ ap (put mark.Comma) (j ∙ ap (λ (q : List Token). token.Name word ∷ put mark.Assign q) p.0), p.1))))
 
   -- what a word begins
-  abbrev Begins : List ℕ → List Token → Act → Type 0
+  abbrev pub Begins : List ℕ → List Token → Act → Type 0
   Begins word ts a = (token.Name word ∷ ts ≡ spell_act a) × FitsAct n a
 
   abbrev word_in_front : List ℕ → List Token → List Token
@@ -187,7 +187,7 @@ module _ (n : ℕ) where
       pick r o None p = tt
       pick r o (Some a) p = (ap (word_in_front (codes "read")) o ∙ p.0, p.1)
 
-  word_sound_of : (word : List ℕ) (ts : List Token) → IfSome (by_word n word ts) (Begins word ts)
+  pub word_sound_of : (word : List ℕ) (ts : List Token) → IfSome (by_word n word ts) (Begins word ts)
   unfolding by_word
   word_sound_of word ts =
       tested (bytes_eq word (codes "call")) _ _ (Begins word ts) (λ e. by (codes "call") (call_at n ts) e (call_sound ts)) (λ _.

@@ -14,7 +14,7 @@ use Rattle.f_grammar.proofs.Steps.{no_comma_end, value_within, strided_within, m
 
 -- ---- what ends a bound, and what a colon isn't
 
-abbrev EndsBound : List Token → Type 0
+abbrev pub EndsBound : List Token → Type 0
 EndsBound (token.Mark mark.Colon ∷ ts) = Unit {0}
 EndsBound (token.Mark mark.Comma ∷ ts) = Unit {0}
 EndsBound (token.Mark mark.Close ∷ ts) = Unit {0}
@@ -187,7 +187,7 @@ mutual
   stride_again Absent n rest f s = stride_stop (expr_at n) rest (ended true rest s).no_single
   stride_again (Present e) n rest f s = stride_step (expr_at n) (spell e rest) rest e (inside e n rest (λ m v. level_again e m 9 rest v (omega arith) (ended true rest s).stops) (maybe_within n e f))
 
-  upper_again : (m : Maybe) (n : ℕ) (rest : List Token) → FitsMaybe n m → EndsBound rest → upper_at (expr_at n) (spell_maybe m rest) ≡ Some (m, rest)
+  pub upper_again : (m : Maybe) (n : ℕ) (rest : List Token) → FitsMaybe n m → EndsBound rest → upper_at (expr_at n) (spell_maybe m rest) ≡ Some (m, rest)
   upper_again Absent n rest f s = upper_stop (expr_at n) rest (bound_is_ended rest s)
   upper_again (Present e) n rest f s =
       let w = maybe_within n e f in

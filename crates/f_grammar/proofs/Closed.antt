@@ -36,7 +36,7 @@ closing_word w false d ts = refl
 mutual
   unfolding closing
 
-  closed_expr : (e : Expr) (n h d : ℕ) (rest : List Token) → Fits n h e → h ≤ 9 → closing d (spell e rest) ≡ closing d rest
+  pub closed_expr : (e : Expr) (n h d : ℕ) (rest : List Token) → Fits n h e → h ≤ 9 → closing d (spell e rest) ≡ closing d rest
   closed_expr (Number digits k) n h d rest f le = refl
   closed_expr (Truth value k) n h d rest f le = refl
   closed_expr (Text bytes k) n h d rest f le = refl
@@ -70,7 +70,7 @@ mutual
   closed_range NoRange n d rest g f = refl
   closed_range (range lower upper) n d rest g f = closed_maybe lower n (suc d) (put mark.Colon (spell_maybe upper (put mark.Close rest))) f.1 ∙ closed_maybe upper n (suc d) (put mark.Close rest) f.2
 
-  closed_args : (args : Args) (n : ℕ) (in_call : Bool) (d : ℕ) (rest : List Token) → FitsArgs n in_call args → closing d (spell_args args rest) ≡ closing d rest
+  pub closed_args : (args : Args) (n : ℕ) (in_call : Bool) (d : ℕ) (rest : List Token) → FitsArgs n in_call args → closing d (spell_args args rest) ≡ closing d rest
   closed_args no_args n in_call d rest f = refl
   closed_args (arg a args) n in_call d rest f = closed_arg a n in_call d (spell_others args rest) f.0 ∙ closed_others args n in_call d rest f.1
 

@@ -236,7 +236,7 @@ pub paren_fits : (n h : ℕ) (e : Expr) → Within n e → Fits n h (Paren e)
 paren_fits zero h e w = w
 paren_fits (suc n) h e w = w
 
-abbrev AsMaybe : ℕ → List Token → Maybe × List Token → Type 0
+abbrev pub AsMaybe : ℕ → List Token → Maybe × List Token → Type 0
 AsMaybe n ts x = (ts ≡ spell_maybe x.0 x.1) × FitsMaybe n x.0
 
 abbrev AsStride : ℕ → List Token → Maybe × List Token → Type 0
@@ -279,7 +279,7 @@ abbrev pub AsType : ℕ → List Token → TypeOf × List Token → Type 0
 AsType n ts x = (ts ≡ spell_type x.0 x.1) × FitsType n x.0
 
 module _ (inner : Reader) (n : ℕ) (sound : (ts : List Token) → IfSome (inner ts) (IsInside n ts)) where
-  upper_sound : (ts : List Token) → IfSome (upper_at inner ts) (AsMaybe n ts)
+  pub upper_sound : (ts : List Token) → IfSome (upper_at inner ts) (AsMaybe n ts)
   unfolding upper_at
   upper_sound ts = tested (ends_bound ts) _ _ (AsMaybe n ts) (λ e. (refl, tt)) (λ e.
       then (inner ts) _ (IsInside n ts) _ (sound ts) (λ x p. (p.0, present_fits n x.0 p.1)))

@@ -1,0 +1,2 @@
+pub mod LineSound
+pub mod LineAgain
