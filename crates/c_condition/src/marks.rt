@@ -18,7 +18,7 @@ pub enum Opening {
 }
 
 /// What a punctuator is behind an operand.
-#[derive(Clone, Copy, PartialEq, Eq, Debug)]
+#[derive(Clone, Copy, PartialEq, Eq)]
 pub enum Joint {
     Infix(BinaryOperator),
     Question,
