@@ -98,7 +98,10 @@ fn a_reference_ends_before_the_equals_sign(rt: HostRuntime) -> Result<(), Fail> 
         Err(_) => assert!(rt; false),
         Ok((r, rest)) => {
             assert!(rt; r.others.len() == 2);
-            assert!(rt; rest[0].token == Token::Mark(Mark::Assign));
+            match rest.first() {
+                None => assert!(rt; false),
+                Some(next) => assert!(rt; next.token == Token::Mark(Mark::Assign)),
+            }
         }
     }
     Ok(())
