@@ -6,3 +6,8 @@ pub mod Visiting
 pub mod Checking
 pub mod Exact
 pub mod Paths
+pub mod Clash
+pub mod Ranging
+pub mod Sweeping
+pub mod Scanning
+pub mod Assigning

@@ -1,3 +1,6 @@
 pub mod Steps
 pub mod Flow
 pub mod Rows
+pub mod Live
+pub mod Ranges
+pub mod Scan

@@ -2,8 +2,12 @@
 #![tactic(auto)]
 
 mod flow;
+mod live;
 mod places;
+mod ranges;
+mod scan;
 mod verdict;
 
 pub use block_homes::{Assignment, Home, Verdict};
+pub use scan::assign;
 pub use verdict::validate;
