@@ -9,5 +9,6 @@ pub mod Paths
 pub mod Clash
 pub mod Ranging
 pub mod Sweeping
+pub mod Starting
 pub mod Scanning
 pub mod Assigning
