@@ -12,3 +12,4 @@ pub mod Sweeping
 pub mod Starting
 pub mod Scanning
 pub mod Assigning
+pub mod Below

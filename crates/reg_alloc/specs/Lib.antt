@@ -4,3 +4,4 @@ pub mod Rows
 pub mod Live
 pub mod Ranges
 pub mod Scan
+pub mod Below

@@ -11,3 +11,6 @@ mod verdict;
 pub use block_homes::{Assignment, Home, Verdict};
 pub use scan::assign;
 pub use verdict::validate;
+
+#[cfg(test)]
+mod tests;
