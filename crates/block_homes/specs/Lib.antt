@@ -1,0 +1,3 @@
+pub mod Held
+pub mod Valid
+pub mod Homed

@@ -1,0 +1,15 @@
+pub mod Analysis
+pub mod Measure
+pub mod Running
+pub mod Flowing
+pub mod Visiting
+pub mod Checking
+pub mod Exact
+pub mod Paths
+pub mod Clash
+pub mod Ranging
+pub mod Sweeping
+pub mod Starting
+pub mod Scanning
+pub mod Assigning
+pub mod Below

@@ -1,0 +1,11 @@
+use Rattle.std.proofs.Common.{◌≡◌, ℕ, ◌<◌, length}
+use Rattle.std.specs.Prelude.{slice_index_or}
+use Rattle.reg_alloc.specs.Ranges.{RangeOf}
+use Rattle.reg_alloc.specs.Scan.{no_range}
+use Rattle.reg_alloc.proofs.ranges.ranges_of.Given as goal
+
+abbrev pub invariant-loop-v : goal.invariant-loop-v
+invariant-loop-v l = record {
+  so_far : length l.ranges.items ≡ l.v;
+  each : (u : ℕ) → u < l.v → RangeOf l.fn.p u (slice_index_or l.ranges.items u no_range);
+}

@@ -1,0 +1,16 @@
+//! Homes for the values of a procedure of blocks: whether an assignment keeps each value, and one that does.
+#![tactic(auto)]
+
+mod flow;
+mod live;
+mod places;
+mod ranges;
+mod scan;
+mod verdict;
+
+pub use block_homes::{Assignment, Home, Verdict};
+pub use scan::assign;
+pub use verdict::validate;
+
+#[cfg(test)]
+mod tests;
