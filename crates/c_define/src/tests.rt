@@ -51,29 +51,88 @@ fn expanded(alloc: Global, macros: &mut Definitions, name: &[u8]) -> Result<Stri
     Ok(out)
 }
 
-#[test]
-fn names_are_defined_and_expanded(rt: HostRuntime) -> Result<(), Fail> {
-    let alloc = rt.alloc();
+// A macro more, where its name is none yet.
+fn add(
+    alloc: Global,
+    macros: &mut Definitions,
+    name: &[u8],
+    tokens: Vec<CToken>,
+    spelling: &[u8],
+) -> Result<(), AllocError> {
+    if macros.is_macro(name) {
+        return Ok(());
+    }
+    let list = written(alloc, spelling)?;
+    macros.define(alloc, name, tokens, List::from_vec(list))?;
+    Ok(())
+}
+
+// `A` is `B ,`.
+fn one_macro(alloc: Global) -> Result<Definitions, AllocError> {
     let mut macros = Definitions::new(alloc);
-    let first = body(alloc, id(alloc, b"B")?, CToken::Mark(Mark::Comma))?;
-    if !macros.is_macro(b"A") {
-        macros.define(alloc, b"A", first, List::from_vec(written(alloc, b"B")?))?;
+    let tokens = body(alloc, id(alloc, b"B")?, CToken::Mark(Mark::Comma))?;
+    add(alloc, &mut macros, b"A", tokens, b"B")?;
+    Ok(macros)
+}
+
+// And `B` is `A A`.
+fn two_macros(alloc: Global) -> Result<Definitions, AllocError> {
+    let mut macros = one_macro(alloc)?;
+    let tokens = body(alloc, id(alloc, b"A")?, id(alloc, b"A")?)?;
+    add(alloc, &mut macros, b"B", tokens, b"A")?;
+    Ok(macros)
+}
+
+// So many tokens has `B`, or none where they are more than the limit.
+fn count(alloc: Global, limit: usize) -> Result<Option<usize>, AllocError> {
+    let mut macros = two_macros(alloc)?;
+    let mut tokens: Vec<CSpanned> = Vec::new(alloc);
+    if macros.expand(alloc, b"B", PLACE, &mut tokens, limit)? {
+        Ok(Some(tokens.len()))
+    } else {
+        Ok(None)
     }
-    assert_eq!(rt; expanded(alloc, &mut macros, b"A")?.as_str(), "B,");
-    let second = body(alloc, id(alloc, b"A")?, id(alloc, b"A")?)?;
-    if !macros.is_macro(b"B") {
-        macros.define(alloc, b"B", second, List::from_vec(written(alloc, b"A")?))?;
-    }
-    assert_eq!(rt; expanded(alloc, &mut macros, b"A")?.as_str(), "AA,");
-    assert_eq!(rt; macros.is_same(b"A", &written(alloc, b"B")?), Some(true));
-    assert_eq!(rt; macros.is_same(b"A", &written(alloc, b"C")?), Some(false));
-    let mut more: Vec<CSpanned> = Vec::new(alloc);
-    assert!(rt; macros.expand(alloc, b"B", PLACE, &mut more, 4)?);
-    assert_eq!(rt; more.len(), 4);
+}
+
+// Whether `A` was written so.
+fn is_written(alloc: Global, spelling: &[u8]) -> Result<Option<bool>, AllocError> {
+    let macros = one_macro(alloc)?;
+    let list = written(alloc, spelling)?;
+    Ok(macros.is_same(b"A", &list))
+}
+
+#[test]
+fn a_name_expands(rt: HostRuntime) -> Result<(), Fail> {
+    let mut macros = one_macro(rt.alloc())?;
+    assert_eq!(rt; expanded(rt.alloc(), &mut macros, b"A")?.as_str(), "B,");
+    Ok(())
+}
+
+#[test]
+fn a_name_stays_inside_its_own_expansion(rt: HostRuntime) -> Result<(), Fail> {
+    let mut macros = two_macros(rt.alloc())?;
+    assert_eq!(rt; expanded(rt.alloc(), &mut macros, b"A")?.as_str(), "AA,");
+    Ok(())
+}
+
+#[test]
+fn a_name_that_is_no_macro_stays(rt: HostRuntime) -> Result<(), Fail> {
+    let mut macros = two_macros(rt.alloc())?;
     macros.undefine(b"A");
-    assert_eq!(rt; macros.is_same(b"A", &written(alloc, b"B")?), None);
-    assert_eq!(rt; expanded(alloc, &mut macros, b"B")?.as_str(), "AA");
-    more.clear();
-    assert!(rt; !macros.expand(alloc, b"B", PLACE, &mut more, 1)?);
+    assert_eq!(rt; expanded(rt.alloc(), &mut macros, b"B")?.as_str(), "AA");
+    Ok(())
+}
+
+#[test]
+fn what_is_too_long_is_told(rt: HostRuntime) -> Result<(), Fail> {
+    assert_eq!(rt; count(rt.alloc(), 4)?, Some(4));
+    assert_eq!(rt; count(rt.alloc(), 3)?, None);
+    Ok(())
+}
+
+#[test]
+fn replacement_lists_are_compared(rt: HostRuntime) -> Result<(), Fail> {
+    assert_eq!(rt; is_written(rt.alloc(), b"B")?, Some(true));
+    assert_eq!(rt; is_written(rt.alloc(), b"C")?, Some(false));
     Ok(())
 }
