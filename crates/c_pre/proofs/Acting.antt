@@ -85,15 +85,15 @@ bind_fails stop.Memory see r f k view h = tt
 bind_fails (stop.Library name) see r f k view h = absurd h
 bind_fails (stop.At x) see r f k view h = ap (λ r. r >>= f) h
 
-pub bind_counts : {A B C : Type 0} (x : Stop) (see : A → B) (r : Read B) (n : ℕ) → Says {A = A} (Err x) see r → StopCounts {A = C} (Err x) n n
-bind_counts stop.Memory see r n h = refl
-bind_counts (stop.Library name) see r n h = absurd h
-bind_counts (stop.At x) see r n h = refl
+pub bind_counts : {A B : Type 0} (C : Type 0) (x : Stop) (see : A → B) (r : Read B) (n : ℕ) → Says {A = A} (Err x) see r → StopCounts {A = C} (Err x) n n
+bind_counts C stop.Memory see r n h = refl
+bind_counts C (stop.Library name) see r n h = absurd h
+bind_counts C (stop.At x) see r n h = refl
 
-pub bind_strays : {A B C : Type 0} (x : Stop) (see : A → B) (r : Read B) (files : List (List ℕ × List ℕ)) (n : ℕ) → Says {A = A} (Err x) see r → StopStrays {A = C} (Err x) files n n
-bind_strays stop.Memory see r files n h = tt
-bind_strays (stop.Library name) see r files n h = absurd h
-bind_strays (stop.At x) see r files n h = refl
+pub bind_strays : {A B : Type 0} (C : Type 0) (x : Stop) (see : A → B) (r : Read B) (files : List (List ℕ × List ℕ)) (n : ℕ) → Says {A = A} (Err x) see r → StopStrays {A = C} (Err x) files n n
+bind_strays C stop.Memory see r files n h = tt
+bind_strays C (stop.Library name) see r files n h = absurd h
+bind_strays C (stop.At x) see r files n h = refl
 
 pub acts_other : (including : Including) (h : Head) (s : State) (p : Place) (tail : List Lexeme) → (h ≡ head.Include → ⊥) → (h ≡ head.Define → ⊥) → (h ≡ head.Undef → ⊥) → (h ≡ head.Error → ⊥) → (h ≡ head.Unknown → ⊥)
     → act_at including h s p tail ≡ Ok s
@@ -159,20 +159,27 @@ told (Some x) fs P e h = let same : x ≡ fs = cc in subst P same h
 
 -- ---- lines that are acted on
 
-pub sorts_counts : {A : Type 0} (x : Stop) (k : ℕ) (pre pre' : Pre) (os os' : Opens) (including : Including) (r : Read Stand) (n : ℕ) → Sorted (Err x) k pre pre' os os' including r → StopCounts {A = A} (Err x) n n
-sorts_counts stop.Memory k pre pre' os os' including r n h = refl
-sorts_counts (stop.Library name) k pre pre' os os' including r n h = absurd h
-sorts_counts (stop.At f) k pre pre' os os' including r n h = refl
+pub sorts_counts : (A : Type 0) (x : Stop) (k : ℕ) (pre pre' : Pre) (os os' : Opens) (including : Including) (r : Read Stand) (n : ℕ) → Sorted (Err x) k pre pre' os os' including r → StopCounts {A = A} (Err x) n n
+sorts_counts A stop.Memory k pre pre' os os' including r n h = refl
+sorts_counts A (stop.Library name) k pre pre' os os' including r n h = absurd h
+sorts_counts A (stop.At f) k pre pre' os os' including r n h = refl
 
-pub sorts_strays : {A : Type 0} (x : Stop) (k : ℕ) (pre pre' : Pre) (os os' : Opens) (including : Including) (r : Read Stand) (files : List (List ℕ × List ℕ)) (n : ℕ) → Sorted (Err x) k pre pre' os os' including r → StopStrays {A = A} (Err x) files n n
-sorts_strays stop.Memory k pre pre' os os' including r files n h = tt
-sorts_strays (stop.Library name) k pre pre' os os' including r files n h = absurd h
-sorts_strays (stop.At f) k pre pre' os os' including r files n h = refl
+pub sorts_strays : (A : Type 0) (x : Stop) (k : ℕ) (pre pre' : Pre) (os os' : Opens) (including : Including) (r : Read Stand) (files : List (List ℕ × List ℕ)) (n : ℕ) → Sorted (Err x) k pre pre' os os' including r → StopStrays {A = A} (Err x) files n n
+sorts_strays A stop.Memory k pre pre' os os' including r files n h = tt
+sorts_strays A (stop.Library name) k pre pre' os os' including r files n h = absurd h
+sorts_strays A (stop.At f) k pre pre' os os' including r files n h = refl
 
 pub sort_fails : {A : Type 0} (x : Stop) (k : ℕ) (pre pre' : Pre) (os os' : Opens) (including : Including) (r : Read Stand) (view : A → Stand) → Sorted (Err x) k pre pre' os os' including r → Answers {A = A} (Err x) k view r
 sort_fails stop.Memory k pre pre' os os' including r view h = tt
 sort_fails (stop.Library name) k pre pre' os os' including r view h = absurd h
 sort_fails (stop.At f) k pre pre' os os' including r view h = h
+
+pub sorted_none : (o : Option Action) (k : ℕ) (pre pre' : Pre) (os os' : Opens) (including : Including) (r : Read Stand) → o ≡ None → Sorted (Ok o) k pre pre' os os' including r → r ≡ Ok (os', state_of k pre')
+sorted_none None k pre pre' os os' including r e h = h
+sorted_none (Some a) k pre pre' os os' including r e h = cc
+
+pub sorted_some : (o : Option Action) (a : Action) (k : ℕ) (pre pre' : Pre) (os os' : Opens) (including : Including) (r : Read Stand) → o ≡ Some a → Sorted (Ok o) k pre pre' os os' including r → Sorted (Ok (Some a)) k pre pre' os os' including r
+sorted_some o a k pre pre' os os' including r e h = let P : Option Action → Type 0 = λ o. Sorted (Ok o) k pre pre' os os' including r in subst P e h
 
 -- what the line gives is what the directive gives
 pub act_gives : {A : Type 0} (x : Result A Stop) (k : ℕ) (os os' : Opens) (act : Read State) (r : Read Stand) (s : State) → os' ≡ os → r ≡ with_opens os act → Answers x k (λ _. s) act → Answers x k (λ _. (os', s)) r
@@ -209,10 +216,10 @@ module _ (including : Including) (limit : ℕ) (origin : Origin) (x : Stand) (ls
   pub row_read : (y : Stand) → line_at including limit origin x row ≡ Ok y → lines_at including limit origin x ls ≡ lines_at including limit origin y behind
   row_read y h = all_is ∙ ap (λ r. r >>= λ y. lines_at including limit origin y behind) h
 
-  pub row_fails : {A : Type 0} (y : Stand) (view : State) (k : ℕ) (f : Stop) → Answers {A = A} (Err f) k (λ _. y) (line_at including limit origin x row) → Answers {A = A} (Err f) k (λ _. view) (lines_at including limit origin x ls)
-  row_fails y view k stop.Memory a = tt
-  row_fails y view k (stop.Library name) a = λ z. all_is ∙ ap (λ r. r >>= λ y. lines_at including limit origin y behind) (a z)
-  row_fails y view k (stop.At f) a = all_is ∙ ap (λ r. r >>= λ y. lines_at including limit origin y behind) a
+  pub row_fails : (A : Type 0) (y : Stand) (view : State) (k : ℕ) (f : Stop) → Answers {A = A} (Err f) k (λ _. y) (line_at including limit origin x row) → Answers {A = A} (Err f) k (λ _. view) (lines_at including limit origin x ls)
+  row_fails A y view k stop.Memory a = tt
+  row_fails A y view k (stop.Library name) a = λ z. all_is ∙ ap (λ r. r >>= λ y. lines_at including limit origin y behind) (a z)
+  row_fails A y view k (stop.At f) a = all_is ∙ ap (λ r. r >>= λ y. lines_at including limit origin y behind) a
 
 no_rows : (ls : List Lexeme) → length ls ≡ 0 → rows ls ≡ []
 unfolding rows

@@ -119,8 +119,10 @@ fn step<L: Library>(
 {
     match sort(alloc, pre, opens, reading.limit, reading.origin, row) {
         Err(stop) => Err(stop),
-        Ok(None) => Ok(()),
-        Ok(Some(action)) => act(alloc, library, reading, pre, &action),
+        Ok(sorted) => match sorted {
+            None => Ok(()),
+            Some(action) => act(alloc, library, reading, pre, &action),
+        },
     }
 }
 
