@@ -235,3 +235,57 @@ fn tokens_are_counted(rt: HostRuntime) -> Result<(), Fail> {
     );
     Ok(())
 }
+
+// Sixteen files, each of which but the last includes the next.
+fn chained(alloc: Global, last: &[u8]) -> Result<Vec<u8>, AllocError> {
+    let files = [
+        ("a", b"#include \"b\"".as_slice()),
+        ("b", b"#include \"c\"".as_slice()),
+        ("c", b"#include \"d\"".as_slice()),
+        ("d", b"#include \"e\"".as_slice()),
+        ("e", b"#include \"f\"".as_slice()),
+        ("f", b"#include \"g\"".as_slice()),
+        ("g", b"#include \"h\"".as_slice()),
+        ("h", b"#include \"i\"".as_slice()),
+        ("i", b"#include \"j\"".as_slice()),
+        ("j", b"#include \"k\"".as_slice()),
+        ("k", b"#include \"l\"".as_slice()),
+        ("l", b"#include \"m\"".as_slice()),
+        ("m", b"#include \"n\"".as_slice()),
+        ("n", b"#include \"o\"".as_slice()),
+        ("o", b"#include \"p\"".as_slice()),
+        ("p", last),
+        ("q", b"x".as_slice()),
+    ];
+    shown(alloc, b" #include \"a\"", &files, 0)
+}
+
+#[test]
+fn includes_nest_sixteen_deep(rt: HostRuntime) -> Result<(), Fail> {
+    let alloc = rt.alloc();
+    assert_eq!(rt; chained(alloc, b"x")?.as_slice(), b"x ".as_slice());
+    assert_eq!(rt;
+        chained(alloc, b"#include \"q\"")?.as_slice(),
+        b"1:2: 505".as_slice()
+    );
+    Ok(())
+}
+
+#[test]
+fn tokens_are_counted_over_files(rt: HostRuntime) -> Result<(), Fail> {
+    let alloc = rt.alloc();
+    let files = [("h.h", b"a b".as_slice())];
+    assert_eq!(rt;
+        shown(alloc, b"#include \"h.h\"\nc", &files, 262_141)?.as_slice(),
+        b"a b c ".as_slice()
+    );
+    assert_eq!(rt;
+        shown(alloc, b"#include \"h.h\"\nc", &files, 262_142)?.as_slice(),
+        b"2:1: 510".as_slice()
+    );
+    assert_eq!(rt;
+        shown(alloc, b"\n #include \"h.h\"\nc", &files, 262_143)?.as_slice(),
+        b"2:2: 510".as_slice()
+    );
+    Ok(())
+}

@@ -7,6 +7,7 @@ use Rattle.c_text.specs.Source.{lexemes_in}
 use Rattle.c_text.proofs.WholeLaws.{lexes_one}
 use Rattle.c_lines.specs.declared.head.Head.TheVariants as head
 use Rattle.c_lines.specs.declared.rule.Rule.TheVariants as rule
+use Rattle.c_lines.specs.declared.header.Delimiter.TheVariants.{Angle, Quote}
 use Rattle.c_lines.specs.Rows.{rows}
 use Rattle.c_define.specs.Numbers.{Tables, macros_of}
 use Rattle.c_directives.specs.declared.stop.Stop.{Stop}
@@ -135,7 +136,7 @@ include-returns-in-Some-clause-gives g t c = λ fs fe.
     let inc : Including = include_at fs c.args.reading.limit c.args.reading.depth in
     let ne = c.if-reading-eq0.false in
     let d : c.args.reading.depth ≡ suc (c.args.reading.depth - 1) = omega arith in
-    gives_same {A = Unit {0}} c.read.result (λ k. state_of k c.read.new.pre) _ (λ k. inc (state_of k c.args.pre.now) (asked c.args.name.now) c.args.place)
+    gives_same {A = Unit {0}} c.read.result (λ k. state_of k c.read.new.pre) _ (λ k. inc (state_of k c.args.pre.now) (Angle, c.in-BuiltIn.name) c.args.place)
     (λ k. ap (λ n. inc (state_of k c.args.pre.now) (asked n) c.args.place) c.in-BuiltIn.is)
     (read_header fs c.args.reading.limit (work_of c.args.pre.now) c.args.place c.in-BuiltIn.name c.args.reading.depth (c.args.reading.depth - 1) d c.in-Some.bytes.now
     (ap header_text (sym c.as_slice.ensures) ∙ c.in-Some.ensures)
@@ -155,7 +156,7 @@ include-returns-in-Ok-clause-gives g t c = λ fs fe.
     let found = told (g.L.Library.files c.args.library.now) fs _ fe c.in-Ok.ensures.bytes in
     let ne = c.if-reading-eq0.false in
     let d : c.args.reading.depth ≡ suc (c.args.reading.depth - 1) = omega arith in
-    gives_same {A = Unit {0}} c.read-in-Ok.result (λ k. state_of k c.read-in-Ok.new.pre) _ (λ k. inc (state_of k c.args.pre.now) (asked c.args.name.now) c.args.place)
+    gives_same {A = Unit {0}} c.read-in-Ok.result (λ k. state_of k c.read-in-Ok.new.pre) _ (λ k. inc (state_of k c.args.pre.now) (Quote, c.in-File.name) c.args.place)
     (λ k. ap (λ n. inc (state_of k c.args.pre.now) (asked n) c.args.place) c.in-File.is)
     (read_file fs c.args.reading.limit (work_of c.args.pre.now) c.args.place c.in-File.name c.args.reading.depth (c.args.reading.depth - 1) d c.deref.result.now
     (ap (listed fs) (sym c.as_str-in-File.ensures) ∙ found_bytes (listed fs c.as_str-in-File.result.now) c.in-Ok.bytes _ _ found ∙ ap Some (sym c.deref.ensures.value))
