@@ -7,7 +7,8 @@ ghost use Rattle.c_directives.specs.Sorting.{state_of};
 ghost use Rattle.c_pre.specs.Files.{Gives, StopCounts, StopStrays, include_at};
 
 use c_directives::{
-    Action, Asked, Open, Origin, Pre, Stop, breaks, define, first_open, header, header_text, place_of, sort, undefine,
+    Action, Asked, Open, Origin, Pre, Stop, breaks, define, first_open, header, header_text,
+    place_of, sort, undefine,
 };
 use c_lines::{Head, Rule, row_at};
 use c_text::{Lexeme, Point, lexemes};

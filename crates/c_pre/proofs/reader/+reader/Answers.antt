@@ -218,7 +218,8 @@ read-lines-preserved g t c = (
       (λ k. row_read inc c.args.reading.limit c.args.reading.origin (reverse c.lines.opens.items, state_of (a.0 + k) c.lines.pre) (rows c.lines.rest.now) c.row_at.result.0.now (rows c.row_at.result.1.now) c.row_at.ensures.rows
       (reverse c.step.new.opens.items, state_of k c.step.new.pre) (a.1 k))
       (c.lines.invariant.3 fs fe),
-  λ fs fe. c.in-Ok.ensures.strays fs (c.lines.invariant.1 ∙ fe) ∙ c.lines.invariant.4 fs fe)
+  λ fs fe. c.in-Ok.ensures.strays fs (c.lines.invariant.1 ∙ fe) ∙ c.lines.invariant.4 fs fe,
+)
 
 pub read-returns-in-Err-clause-gives : goal.read-returns-in-Err-clause-gives
 read-returns-in-Err-clause-gives g t c = λ fs fe.
@@ -277,4 +278,5 @@ read-lines-init g t c = (
             (c.as_slice-rest.ensures.value ∙ lexes_one c.args.bytes.now _ c.in_ok-lexemes.ensures))
             ∙ ap (λ (n : ℕ). file_at inc c.args.reading.limit c.args.reading.origin (state_of n c.args.pre.now) c.args.bytes.now) (sym (zero-add k)),
       ),
-  λ fs fe. refl)
+  λ fs fe. refl,
+)
