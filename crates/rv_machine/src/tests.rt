@@ -126,6 +126,14 @@ fn runs(rt: HostRuntime) -> Result<(), Fail> {
     Ok(())
 }
 
+// ADDIW makes the int -1 in a0, all of whose upper 32 bits are ones.
+#[test]
+fn minus_one_is_all_ones(rt: HostRuntime) -> Result<(), Fail> {
+    let words = [0xfff0_051b, 0x0205_5513, 0x05d0_0893, 0x0000_0073];
+    assert_eq!(rt; last_event(rt.alloc(), &words, 0, 4)?, Event::Exit(-1));
+    Ok(())
+}
+
 // A byte is asked for and given back, and the end of the input is the stop code.
 #[test]
 fn calls(rt: HostRuntime) -> Result<(), Fail> {
