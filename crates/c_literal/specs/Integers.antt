@@ -126,7 +126,7 @@ holds type.UnsignedLong n = nat_lt n (2 ^ 64)
 holds type.LongLong n = nat_lt n (2 ^ 63)
 holds type.UnsignedLongLong n = nat_lt n (2 ^ 64)
 
--- the first of the types that the number is in, and the last of them where it is in none
+-- the first of the types that the number is in, and unsigned long long where it is in none; each list of candidates ends with an unsigned type of 64 bits, which has every number of a constant
 abbrev pub first_type : List ConstantType → ℕ → ConstantType
 first_type [] n = type.UnsignedLongLong
 first_type (t ∷ ts) n = if holds t n then t else first_type ts n
