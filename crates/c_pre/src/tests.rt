@@ -1,3 +1,9 @@
+mod bytes;
+mod comments;
+mod expressions;
+mod literals;
+mod tokens;
+
 use crate::{PreFault, expand};
 use c_form::put_spelling;
 use jf_base::tag_text;

@@ -1,0 +1,5 @@
+#ifndef H
+#define H
+#define ONE 1
+int f(void);
+#endif
