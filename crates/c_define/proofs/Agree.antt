@@ -11,7 +11,7 @@ use Rattle.c_macros.specs.declared.token.Token.TheVariants.{Name, Other}
 use Rattle.c_macros.specs.Expansion.{Bodies, Macros as Flags, count, body_of as number_body, without as number_without, along as number_along, among as number_among, behind as number_behind, expansion as number_expansion, Swapping as NumberSwapping, swaps_of, Done as NumberDone}
 use Rattle.c_macros.proofs.Functional.{own_name}
 use Rattle.c_define.specs.Definitions.{Macro, Names, Macros}
-use Rattle.c_define.specs.Expansion.{seen, body_of, without, along, among, behind, expansion, Swapping, Done}
+use Rattle.c_define.specs.Expansion.{seen, body_of, without, along, among, expansion, Expanding}
 use Rattle.c_define.specs.Numbers.{number_of, token_at, is_id, IsIn, AreIn, AreDistinct, AreTables, Tables, macro_at, macros_of}
 use Rattle.c_define.proofs.Named.{same_bytes, bytes_same}
 
@@ -68,33 +68,33 @@ module _ (names : List (List ℕ)) (others : List CToken) (bodies : Bodies) (dis
           rw same (rw (bytes_same (get_or names n [])) (ap (seen (map view)) (sym (own_name bodies on (Name n)))))
       pick false be = rw (apart m n j i be) (h (Name m) j ∙ ap (seen (map view)) (sym (number_other on n m be)))
 
-  abbrev Inside : Swapping → NumberSwapping → Type 0
-  Inside inner inner' = (ms : Names) (on : Flags) → Agrees ms on → (ts : List Token) → AreIn names others ts → behind (inner ms (map view ts)) ≡ map view (number_behind (inner' on ts))
+  abbrev Inside : Expanding → NumberSwapping → Type 0
+  Inside inner inner' = (ms : Names) (on : Flags) → Agrees ms on → (ts : List Token) → AreIn names others ts → inner ms (map view ts) ≡ map view (number_behind (inner' on ts))
 
-  one_stays : (inner : Swapping) (inner' : NumberSwapping) (ms : Names) (on : Flags) (t : Token) (ts : List Token) → body_of ms (view t) ≡ None → number_body bodies on t ≡ None
-      → behind (along inner ms (map view ts)) ≡ map view (number_behind (number_along bodies inner' on ts))
-      → behind (along inner ms (map view (t ∷ ts))) ≡ map view (number_behind (number_along bodies inner' on (t ∷ ts)))
+  one_stays : (inner : Expanding) (inner' : NumberSwapping) (ms : Names) (on : Flags) (t : Token) (ts : List Token) → body_of ms (view t) ≡ None → number_body bodies on t ≡ None
+      → along inner ms (map view ts) ≡ map view (number_behind (number_along bodies inner' on ts))
+      → along inner ms (map view (t ∷ ts)) ≡ map view (number_behind (number_along bodies inner' on (t ∷ ts)))
   unfolding along number_along
   one_stays inner inner' ms on t ts e f ih = rw (e, f) (ap (λ l. view t ∷ l) ih)
 
-  one_swapped : (inner : Swapping) (inner' : NumberSwapping) (ms : Names) (on : Flags) (t : Token) (ts body : List Token) → body_of ms (view t) ≡ Some (map view body) → number_body bodies on t ≡ Some body
-      → behind (inner (without ms (view t)) (map view body)) ≡ map view (number_behind (inner' (number_without on t) body))
-      → behind (along inner ms (map view ts)) ≡ map view (number_behind (number_along bodies inner' on ts))
-      → behind (along inner ms (map view (t ∷ ts))) ≡ map view (number_behind (number_along bodies inner' on (t ∷ ts)))
+  one_swapped : (inner : Expanding) (inner' : NumberSwapping) (ms : Names) (on : Flags) (t : Token) (ts body : List Token) → body_of ms (view t) ≡ Some (map view body) → number_body bodies on t ≡ Some body
+      → inner (without ms (view t)) (map view body) ≡ map view (number_behind (inner' (number_without on t) body))
+      → along inner ms (map view ts) ≡ map view (number_behind (number_along bodies inner' on ts))
+      → along inner ms (map view (t ∷ ts)) ≡ map view (number_behind (number_along bodies inner' on (t ∷ ts)))
   unfolding along number_along
   one_swapped inner inner' ms on t ts body e f g ih = rw (e, f) (rw (g, ih) (sym (map-append view (number_behind (inner' (number_without on t) body)) (number_behind (number_along bodies inner' on ts)))))
 
-  none_left : (inner : Swapping) (inner' : NumberSwapping) (ms : Names) (on : Flags) → behind (along inner ms []) ≡ map view (number_behind (number_along bodies inner' on []))
+  none_left : (inner : Expanding) (inner' : NumberSwapping) (ms : Names) (on : Flags) → along inner ms [] ≡ map view (number_behind (number_along bodies inner' on []))
   unfolding along number_along
   none_left inner inner' ms on = refl
 
-  along_agrees : (inner : Swapping) (inner' : NumberSwapping) → Inside inner inner' → (ms : Names) (on : Flags) → Agrees ms on → (ts : List Token) → AreIn names others ts
-      → behind (along inner ms (map view ts)) ≡ map view (number_behind (number_along bodies inner' on ts))
+  along_agrees : (inner : Expanding) (inner' : NumberSwapping) → Inside inner inner' → (ms : Names) (on : Flags) → Agrees ms on → (ts : List Token) → AreIn names others ts
+      → along inner ms (map view ts) ≡ map view (number_behind (number_along bodies inner' on ts))
   along_agrees inner inner' g ms on h [] a = none_left inner inner' ms on
   along_agrees inner inner' g ms on h (t ∷ ts) a = pick (number_body bodies on t) refl (along_agrees inner inner' g ms on h ts a.1)
     where
-      pick : (o : Option (List Token)) → number_body bodies on t ≡ o → behind (along inner ms (map view ts)) ≡ map view (number_behind (number_along bodies inner' on ts))
-          → behind (along inner ms (map view (t ∷ ts))) ≡ map view (number_behind (number_along bodies inner' on (t ∷ ts)))
+      pick : (o : Option (List Token)) → number_body bodies on t ≡ o → along inner ms (map view ts) ≡ map view (number_behind (number_along bodies inner' on ts))
+          → along inner ms (map view (t ∷ ts)) ≡ map view (number_behind (number_along bodies inner' on (t ∷ ts)))
       pick None e ih = one_stays inner inner' ms on t ts (h t a.0 ∙ ap (seen (map view)) e) e ih
       pick (Some body) e ih =
           one_swapped inner inner' ms on t ts body (h t a.0 ∙ ap (seen (map view)) e) e
@@ -102,7 +102,7 @@ module _ (names : List (List ℕ)) (others : List CToken) (bodies : Bodies) (dis
 
   among_agrees : (k : ℕ) → Inside (among k) (number_among bodies k)
   unfolding among number_among
-  among_agrees zero = along_agrees (λ ms ts. Done) (λ on ts. NumberDone) (λ ms on h ts a. refl)
+  among_agrees zero = along_agrees (λ ms ts. []) (λ on ts. NumberDone) (λ ms on h ts a. refl)
   among_agrees (suc k) = along_agrees (among k) (number_among bodies k) (among_agrees k)
 
   pub expansion_agrees : (ms : Macros) (on : Flags) → ms.size ≡ count on → Agrees ms.of on → (ts : List Token) → AreIn names others ts → expansion ms (map view ts) ≡ map view (number_expansion bodies on ts)
@@ -130,6 +130,6 @@ pub name_stays : (ms : Macros) (x : List ℕ) → ms.of x ≡ None → expansion
 unfolding expansion among along
 name_stays ms x e = pick ms.size
   where
-    pick : (k : ℕ) → behind (among k ms.of (Id x ∷ [])) ≡ Id x ∷ []
+    pick : (k : ℕ) → among k ms.of (Id x ∷ []) ≡ Id x ∷ []
     pick zero = rw e refl
     pick (suc k) = rw e refl

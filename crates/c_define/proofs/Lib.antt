@@ -3,3 +3,4 @@ pub mod Wide
 pub mod Agree
 pub mod Told
 pub mod Put
+pub mod Rescanned

@@ -1,4 +1,4 @@
--- What a list of tokens expands to (ISO/IEC 9899:2011, 6.10.3 and 6.10.3.4).
+-- What a list of tokens expands to, as a function (ISO/IEC 9899:2011, 6.10.3 and 6.10.3.4). That it is the relation of `Rescanning` is a law of the crate.
 use Rattle.std.specs.Prelude.{◌≡◌, ℕ, zero, suc, ◌+◌, ◌<◌, ◌≤◌, List, [], ◌∷◌, ◌++◌, map, length, Option, Some, None, Bool, true, false, if◌then◌else◌}
 use Rattle.std.specs.Str.{bytes_eq}
 use Rattle.jf_base.specs.declared.place.Place.{Place}
@@ -21,58 +21,26 @@ abbrev pub without : Names → CToken → Names
 without names (Id name) = λ other. if bytes_eq other name then None else names other
 without names _ = names
 
--- how a list of tokens is replaced: its first token stays, or is swapped for what its body gives
-pub data Swaps : Type 0 where
-  Done : Swaps
-  Stay : (t : CToken) (rest : Swaps) → Swaps
-  Swap : (t : CToken) (inner rest : Swaps) → Swaps
-
--- the tokens before
-abbrev pub before : Swaps → List CToken
-before Done = []
-before (Stay t rest) = t ∷ before rest
-before (Swap t inner rest) = t ∷ before rest
-
--- the tokens behind
-abbrev pub behind : Swaps → List CToken
-behind Done = []
-behind (Stay t rest) = t ∷ behind rest
-behind (Swap t inner rest) = behind inner ++ behind rest
-
--- a token stays exactly where no macro has its name, and a macro's body is replaced where that macro isn't one
-abbrev pub Obeys : Names → Swaps → Type 0
-Obeys names Done = Unit {0}
-Obeys names (Stay t rest) = (body_of names t ≡ None) × Obeys names rest
-Obeys names (Swap t inner rest) = (body_of names t ≡ Some (before inner)) × Obeys (without names t) inner × Obeys names rest
-
--- the relation between tokens and what they expand to
-pub record Expands (names : Names) (tokens out : List CToken) : Type 0 where
-  pub swaps : Swaps
-  pub obeys : Obeys names swaps
-  pub from : tokens ≡ before swaps
-  pub to : out ≡ behind swaps
-
--- ---- the same as a function
-
 abbrev pub choose : {A B : Type 0} → Option A → B → (A → B) → B
 choose None none some = none
 choose (Some x) none some = some x
 
-abbrev pub Swapping : Type 0
-Swapping = Names → List CToken → Swaps
+abbrev pub Expanding : Type 0
+Expanding = Names → List CToken → List CToken
 
-unfoldable pub along : Swapping → Swapping
-along inside names [] = Done
-along inside names (t ∷ ts) = choose (body_of names t) (Stay t (along inside names ts)) (λ body. Swap t (inside (without names t) body) (along inside names ts))
+-- a token that isn't the name of a macro stays, and a macro's body is expanded where that macro isn't one
+unfoldable pub along : Expanding → Expanding
+along inside names [] = []
+along inside names (t ∷ ts) = choose (body_of names t) (t ∷ along inside names ts) (λ body. inside (without names t) body ++ along inside names ts)
 
 -- where so many names are macros at most
-unfoldable pub among : ℕ → Swapping
-among zero = along (λ names ts. Done)
+unfoldable pub among : ℕ → Expanding
+among zero = along (λ names ts. [])
 among (suc k) = along (among k)
 
 -- what a list of tokens expands to
 unfoldable pub expansion : Macros → List CToken → List CToken
-expansion ms ts = behind (among ms.size ms.of ts)
+expansion ms ts = among ms.size ms.of ts
 
 -- tokens that all stand for one place
 abbrev pub all_at : Place → List CToken → List CSpanned

@@ -1,3 +1,4 @@
 pub mod Definitions
 pub mod Expansion
 pub mod Numbers
+pub mod Rescanning

@@ -69,8 +69,9 @@ none_tracked void names ne t m = pick (get_or void m false) refl
     pick false e = e
     pick true e = absurd (let y = t m e in let no = ap (member m) ne in cc)
 
-pub down_set : (void : List Bool) → AreDown void → AreDown (void ++ false ∷ [])
-down_set [] a zero = refl
-down_set [] a (suc m) = refl
-down_set (b ∷ bs) a zero = a 0
-down_set (b ∷ bs) a (suc m) = down_set bs (λ k. a (suc k)) m
+-- a flag more, which is down
+pub one_down : (flags : List Bool) (m : ℕ) → get_or (flags ++ false ∷ []) m false ≡ get_or flags m false
+one_down [] zero = refl
+one_down [] (suc m) = refl
+one_down (b ∷ bs) zero = refl
+one_down (b ∷ bs) (suc m) = one_down bs m

@@ -1,8 +1,10 @@
 //! A table of macros.
 
 ghost use Rattle.std.specs.Prelude.{◌≡◌, ℕ, ◌≤◌, ◌<◌, ◌+◌, max, List, [], length, OnOk, OnErr, IfOk, false, slice_index_or, slice_set};
+ghost use Rattle.c_macros.specs.Expansion.{Bodies, Macros};
 ghost use Rattle.c_macros.specs.Stack.{Expanded, texts};
 ghost use Rattle.c_macros.specs.Keeping.{State, put, defined, undefined, AreTracked, AreDown};
+ghost use Rattle.c_macros.specs.Remembering.{Remembers};
 ghost use Rattle.c_macros.specs.declared.token.Token.{Token};
 
 use crate::quick::expand_quick;
@@ -43,10 +45,22 @@ fn forget(void: &mut [bool], remembered: &mut Vec<usize>)
     }
 }
 
-// Makes room for the flag of a name, which is down as all are.
+// Takes all flags down where that of the name is up: where it is down, no remembered macro has the name in its body, and what is remembered stays right
+// whatever becomes of the name.
+fn forget_with(void: &mut [bool], remembered: &mut Vec<usize>, name: usize)
+    requires { AreTracked void.old remembered.old.items }
+    ensures tracked { AreTracked void.new remembered.new.items }
+    ensures down { slice_index_or void.new name false ≡ false }
+    ensures right { (bodies : Bodies) (on : Macros) → Remembers bodies on void.old → Remembers bodies on void.new }
+{
+    if is_up(void, name) {
+        forget(void, remembered);
+    }
+}
+
+// Makes room for the flag of a name, which is down where it wasn't there.
 fn make_room(flags: &mut Vec<bool>, name: usize) -> Result<(), AllocError>
-    requires { AreDown flags.old.items }
-    ensures down { AreDown flags.new.items }
+    ensures same { (n : ℕ) → slice_index_or flags.new.items n false ≡ slice_index_or flags.old.items n false }
     ensures longer { length flags.old.items ≤ length flags.new.items }
     ensures room { OnOk result (name < length flags.new.items) }
 {
@@ -59,6 +73,7 @@ fn make_room(flags: &mut Vec<bool>, name: usize) -> Result<(), AllocError>
 // Puts a flag there, with lowered ones before it where there are too few.
 fn put_flag(flags: &mut Vec<bool>, name: usize, up: bool) -> Result<(), AllocError>
     ensures size { length flags.new.items ≤ max (length flags.old.items) (name + 1) }
+    ensures same { OnErr result ((n : ℕ) → slice_index_or flags.new.items n false ≡ slice_index_or flags.old.items n false) }
     ensures value { OnOk result (flags.new.items ≡ put flags.old.items name up false) }
 {
     while flags.len() <= name {
@@ -121,7 +136,7 @@ impl MacroTable {
         ensures size { length self.new.on ≤ max (length self.old.on) (name + 1) }
         ensures err { OnErr result ((n : ℕ) → slice_index_or self.new.bodies n [] ≡ slice_index_or self.old.bodies n []) }
     {
-        forget(&mut self.void, &mut self.remembered);
+        forget_with(&mut self.void, &mut self.remembered, name);
         make_room(&mut self.void, name)?;
         make_room_for_body(alloc, &mut self.bodies, name)?;
         put_flag(&mut self.on, name, true)?;
@@ -133,13 +148,13 @@ impl MacroTable {
     pub fn undefine(&mut self, name: usize)
         ensures { self.new ≡ undefined self.old name }
     {
-        forget(&mut self.void, &mut self.remembered);
+        forget_with(&mut self.void, &mut self.remembered, name);
         set(&mut self.on, name, false);
     }
 
     /// Puts out what a token expands to, or answers false where that is more than there is room for. Each token that is put out has the place that is
     /// given. It takes as many steps as macros are replaced and tokens are put out, and a macro that was seen to expand to nothing is replaced no
-    /// second time until a name is defined or undefined.
+    /// second time until one that was seen so is defined or undefined.
     pub fn expand(
         &mut self,
         alloc: Global,
