@@ -8,8 +8,12 @@ pub mod Exact
 pub mod Paths
 pub mod Clash
 pub mod Ranging
-pub mod Sweeping
+pub mod Occurring
+pub mod Collecting
+pub mod Searching
+pub mod Reaching
 pub mod Starting
 pub mod Scanning
 pub mod Assigning
+pub mod Assigned
 pub mod Below

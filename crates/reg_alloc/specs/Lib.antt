@@ -2,6 +2,8 @@ pub mod Steps
 pub mod Flow
 pub mod Rows
 pub mod Live
+pub mod Occurs
 pub mod Ranges
 pub mod Scan
+pub mod All
 pub mod Below

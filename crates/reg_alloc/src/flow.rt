@@ -1,15 +1,15 @@
 //! What each place holds at the start of each block, on every path.
 
-ghost use Rattle.std.specs.Prelude.{◌≡◌, ℕ, ◌+◌, ◌<◌, ◌≤◌, ◌⊎◌, [], length, slice_index, IfOk, OnOk, MatchBool};
+ghost use Rattle.std.specs.Prelude.{◌≡◌, ℕ, ◌+◌, ◌<◌, ◌≤◌, ◌^◌, ◌⊎◌, [], length, slice_index, IfOk, OnOk, MatchBool};
 ghost use Rattle.flatten.specs.Named.{AllBelow};
 ghost use Rattle.flatten.specs.Paths.{goes_to};
 ghost use Rattle.block_homes.specs.Held.{starting};
 ghost use Rattle.block_homes.specs.Valid.{IsNamed};
 ghost use Rattle.reg_alloc.specs.Steps.{next_of};
 ghost use Rattle.reg_alloc.specs.Flow.{row_of, left_over, Weaker, Meet, Drops, Flows, FlowsAll};
-ghost use Rattle.reg_alloc.specs.Rows.{Places, InvOf};
+ghost use Rattle.reg_alloc.specs.Rows.{Places, InvOf, width};
 
-use crate::places::run_insns;
+use crate::places::{run_insns, width_of};
 use flatten::{BlockEnd, BlockProc};
 use jf_base::List;
 use std::alloc::{AllocError, Global};
@@ -128,12 +128,12 @@ fn visit(
     b: usize,
 ) -> Result<(), AllocError>
     requires named { IsNamed p.now }
-    requires places { Places p.now.values (32 + p.now.values) places.now }
+    requires places { Places p.now.values (width places.now) places.now }
     requires at { b < length p.now.blocks }
-    requires reached { length (row_of rows.old.items b) ≡ 32 + p.now.values }
+    requires reached { length (row_of rows.old.items b) ≡ width places.now }
     requires inv { InvOf places.now p.now rows.old.items stack.old.items b (next_of p.now.blocks b) }
     ensures inv { OnOk result (InvOf places.now p.now rows.new.items stack.new.items b []) }
-    ensures falls { OnOk result (left_over p.now.values (32 + p.now.values) rows.new.items stack.new.items ≤ left_over p.now.values (32 + p.now.values) rows.old.items stack.old.items) }
+    ensures falls { OnOk result (left_over p.now.values (width places.now) rows.new.items stack.new.items ≤ left_over p.now.values (width places.now) rows.old.items stack.old.items) }
 {
     let blocks = p.blocks.as_slice();
     let block = &blocks[b];
@@ -146,12 +146,13 @@ fn visit(
 
 // The rows of all blocks.
 pub fn analyse(alloc: Global, p: &BlockProc, places: &[usize]) -> Result<Vec<List<u32>>, AllocError>
+    requires size { width places.now < 2 ^ 64 }
     requires some { 0 < length p.now.blocks }
     requires named { IsNamed p.now }
-    requires places { Places p.now.values (32 + p.now.values) places.now }
+    requires places { Places p.now.values (width places.now) places.now }
     ensures { IfOk result (λ rows. InvOf places.now p.now rows.items [] 0 []) }
 {
-    let size = 32 + p.values as usize;
+    let size = width_of(places);
     let mut rows = Vec::new(alloc);
     for _ in 0..p.blocks.len() {
         rows.push(List::from_vec(Vec::new(alloc)))?;

@@ -2,13 +2,15 @@
 #![tactic(auto)]
 
 mod flow;
-mod live;
+mod occurrences;
 mod places;
+mod program;
 mod ranges;
 mod scan;
 mod verdict;
 
 pub use block_homes::{Assignment, Home, Verdict};
+pub use program::assign_all;
 pub use scan::assign;
 pub use verdict::validate;
 

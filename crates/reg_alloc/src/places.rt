@@ -1,11 +1,11 @@
 //! Rows of what places hold, along the instructions of a block.
 
-ghost use Rattle.std.specs.Prelude.{◌≡◌, ℕ, ◌<◌, [], ◌∷◌, length, All, slice_index, IfOk};
+ghost use Rattle.std.specs.Prelude.{◌≡◌, ℕ, ◌<◌, ◌^◌, [], ◌∷◌, length, All, slice_index, IfOk};
 ghost use Rattle.flatten.specs.Named.{AllBelow};
 ghost use Rattle.flatten.specs.Paths.{sets};
 ghost use Rattle.block_homes.specs.Held.{place, places_of as all_places, put, after};
 ghost use Rattle.block_homes.specs.Valid.{InsnBelow};
-ghost use Rattle.reg_alloc.specs.Rows.{Places};
+ghost use Rattle.reg_alloc.specs.Rows.{Places, width};
 
 use block_homes::Home;
 use flatten::BlockInsn;
@@ -24,6 +24,21 @@ pub fn places_of(alloc: Global, homes: &[Home]) -> Result<Vec<usize>, AllocError
     ensures { IfOk result (λ v. v.items ≡ all_places homes.now) }
 {
     homes.iter().map(|home| place_of(home)).collect(alloc)
+}
+
+/// How many places there are up to the last home.
+#[tactic(auto, unfolding(crate::specs::Rows::top))]
+pub fn width_of(places: &[usize]) -> usize
+    requires { width places.now < 2 ^ 64 }
+    ensures { result ≡ width places.now }
+{
+    let mut last = 0;
+    let mut rest = places;
+    while let Some((place, tail)) = rest.split_first() {
+        last = last.max(*place);
+        rest = tail;
+    }
+    last + 1
 }
 
 // The row when the value has been written to its place.

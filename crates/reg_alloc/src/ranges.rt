@@ -1,15 +1,16 @@
 //! From where to where each value is present.
 
-ghost use Rattle.std.specs.Prelude.{◌≡◌, true, false, cond, ◌||◌, ℕ, ◌+◌, ◌-◌, ◌<◌, ◌≤◌, ◌^◌, length, IfOk};
-ghost use Rattle.flatten.specs.Named.{AllBelow};
-ghost use Rattle.flatten.specs.Paths.{goes_to};
+ghost use Rattle.std.specs.Prelude.{◌≡◌, ℕ, ◌+◌, ◌-◌, ◌<◌, ◌≤◌, ◌^◌, [], ◌++◌, length, slice_index, cond, ◌==◌, ◌||◌, ◌∷◌, slice_set, IfOk, OnOk};
 ghost use Rattle.block_homes.specs.Held.{total};
 ghost use Rattle.block_homes.specs.Valid.{IsNamed};
-ghost use Rattle.reg_alloc.specs.Ranges.{lives, Known, RangeOk, Covers, Wider, CoversFrom, NotedIf, SoundHere, falses, Settled, Marked, RangeOf};
+ghost use Rattle.reg_alloc.specs.Occurs.{Occurrences, Sources, BlockStarts, Each, widened, hull, marked, stacked, in_blocks};
+ghost use Rattle.reg_alloc.specs.Ranges.{Covers, RangeOk, RangeOf};
 ghost use Rattle.reg_alloc.specs.Scan.{Ranges};
 
-use crate::live::{end_lives, has_value, insn_lives};
-use flatten::{BlockEnd, BlockInsn, BlockProc};
+use crate::occurrences::{Occurrence, occurrences_of, sources_of, starts_of};
+use crate::scan::filled;
+use flatten::BlockProc;
+use jf_base::List;
 use std::alloc::{AllocError, Global};
 
 /// From the first to the last instruction at which a value is present; `first` is above `last` where there is none.
@@ -19,129 +20,132 @@ pub struct Range {
     pub last: u32,
 }
 
-fn note_if(range: &mut Range, yes: bool, k: u32)
-    ensures { NotedIf yes k range.old range.new }
+fn widen(range: &mut Range, k: u32)
+    ensures { range.new ≡ widened range.old k }
 {
-    if yes && k < range.first {
-        range.first = k;
-    }
-    if yes && range.last < k {
-        range.last = k;
-    }
+    range.first = range.first.min(k);
+    range.last = range.last.max(k);
 }
 
-// Notes where these instructions and the end have v, from the last to the first, and says whether v is live before them.
-fn walk(
-    _p: &BlockProc,
-    insns: &[BlockInsn],
-    end: &BlockEnd,
-    v: u32,
-    live: &[bool],
-    start: u32,
+// Takes in an occurrence. Its block gets the mark and, where it hasn't got it before and the value isn't set there first, is put on the stack.
+fn visit(
+    marks: &mut Vec<u32>,
+    stack: &mut Vec<u32>,
     range: &mut Range,
-) -> bool
-    requires targets { AllBelow (length live.now) (goes_to end.now) }
-    requires size { start + length insns.now < 2 ^ 32 - 1 }
-    requires sound { SoundHere _p.now v live.now insns.now end.now start }
-    requires range { RangeOk _p.now v range.old }
-    ensures range { RangeOk _p.now v range.new }
-    ensures wider { Wider range.old range.new }
-    ensures result { result ≡ lives v live.now insns.now end.now }
-    ensures covers { CoversFrom v live.now insns.now end.now start 0 range.new }
+    o: &Occurrence,
+    mark: u32,
+) -> Result<(), AllocError>
+    requires { o.now.block < length marks.old.items }
+    ensures marks { OnOk result (marks.new.items ≡ slice_set marks.old.items o.now.block mark) }
+    ensures stack { OnOk result (stack.new.items ≡ cond ((slice_index marks.old.items o.now.block == mark) || o.now.sets) stack.old.items (stack.old.items ++ o.now.block ∷ [])) }
+    ensures range { OnOk result (range.new ≡ widened range.old o.now.insn) }
 {
-    let len = insns.len();
-    let mut alive = end_lives(end, v, live);
-    note_if(range, alive, start + len as u32);
-    for back in 0..len {
-        let i = len - 1 - back;
-        let insn = &insns[i];
-        alive = insn_lives(insn, v, alive);
-        note_if(range, has_value(insn, v, alive), start + i as u32);
+    let block = o.block as usize;
+    widen(range, o.insn);
+    let is_known = marks[block] == mark || o.sets;
+    marks[block] = mark;
+    if !is_known {
+        stack.push(o.block)?;
     }
-    alive
+    Ok(())
 }
 
-fn mark(live: &mut Vec<bool>, b: usize, alive: bool) -> bool
-    requires { b < length live.old.items }
-    ensures { Marked b alive live.old.items live.new.items result }
+fn visit_all(
+    marks: &mut Vec<u32>,
+    stack: &mut Vec<u32>,
+    range: &mut Range,
+    occurrences: &[Occurrence],
+    mark: u32,
+) -> Result<(), AllocError>
+    requires { Each (λ o. o.block < length marks.old.items) occurrences.now }
+    ensures marks { OnOk result (marks.new.items ≡ marked mark occurrences.now marks.old.items) }
+    ensures stack { OnOk result (stack.new.items ≡ stacked mark occurrences.now marks.old.items stack.old.items) }
+    ensures range { OnOk result (range.new ≡ hull occurrences.now range.old) }
 {
-    if alive && !live[b] {
-        live[b] = true;
-        return true;
+    let mut rest = occurrences;
+    while let Some((o, tail)) = rest.split_first() {
+        visit(marks, stack, range, o, mark)?;
+        rest = tail;
     }
-    false
+    Ok(())
 }
 
-fn either(a: bool, b: bool) -> bool
-    ensures { result ≡ (a || b) }
+// A parameter is present at the first instruction.
+fn range_at_start(p: &BlockProc, v: u32) -> Range
+    ensures ok { RangeOk p.now v result }
+    ensures param { (v < p.now.params) → Covers result 0 }
 {
-    a || b
+    if v < p.params {
+        Range { first: 0, last: 0 }
+    } else {
+        Range {
+            first: 4294967295,
+            last: 0,
+        }
+    }
 }
 
-// Goes through all blocks from the last to the first, and says whether more is known then.
-fn sweep(p: &BlockProc, v: u32, live: &mut Vec<bool>, count: u32, range: &mut Range) -> bool
+// From the first to the last instruction at which v, with these occurrences, is present. No mark is above v, and afterwards none is above v + 1.
+fn range_of(
+    alloc: Global,
+    p: &BlockProc,
+    v: u32,
+    occurrences: &[Occurrence],
+    sources: &[List<Occurrence>],
+    starts: &[u32],
+    marks: &mut Vec<u32>,
+) -> Result<Range, AllocError>
     requires named { IsNamed p.now }
-    requires count { count ≡ total p.now.blocks }
-    requires size { count < 2 ^ 32 - 1 }
-    requires many { length live.old.items ≡ length p.now.blocks }
-    requires known { Known p.now v live.old.items }
-    requires range { RangeOk p.now v range.old }
-    ensures many { length live.new.items ≡ length p.now.blocks }
-    ensures known { Known p.now v live.new.items }
-    ensures range { RangeOk p.now v range.new }
-    ensures wider { Wider range.old range.new }
-    ensures falls { falses live.new.items + cond result 1 0 ≤ falses live.old.items }
-    ensures settled { result ≡ false → Settled p.now v live.new.items range.new }
+    requires size { total p.now.blocks < 2 ^ 32 - 1 }
+    requires value { v < p.now.values }
+    requires occurrences { occurrences.now ≡ in_blocks v 0 0 p.now.blocks }
+    requires sources { Sources p.now sources.now }
+    requires starts { BlockStarts p.now starts.now }
+    requires count { length marks.old.items ≡ length p.now.blocks }
+    requires marks { (c : ℕ) → slice_index marks.old.items c ≤ v }
+    ensures count { OnOk result (length marks.new.items ≡ length p.now.blocks) }
+    ensures marks { OnOk result ((c : ℕ) → slice_index marks.new.items c ≤ v + 1) }
+    ensures range { IfOk result (λ r. RangeOf p.now v r) }
 {
-    let mut changed = false;
-    let mut behind: u32 = count;
-    let blocks = p.blocks.as_slice();
-    let len = blocks.len();
-    for back in 0..len {
-        let b = len - 1 - back;
-        let block = &blocks[b];
-        let insns = block.insns.as_slice();
-        behind = behind - 1 - insns.len() as u32;
-        let alive = walk(p, insns, &block.end, v, live.as_slice(), behind, range);
-        let marked = mark(live, b, alive);
-        changed = either(changed, marked);
-    }
-    changed
-}
-
-// From the first to the last instruction at which v is present.
-fn range_of(alloc: Global, p: &BlockProc, count: u32, v: u32) -> Result<Range, AllocError>
-    requires named { IsNamed p.now }
-    requires count { count ≡ total p.now.blocks }
-    requires size { count < 2 ^ 32 - 1 }
-    ensures { IfOk result (λ r. RangeOf p.now v r) }
-{
-    let mut range = Range {
-        first: 4294967295,
-        last: 0,
-    };
-    let param = v < p.params;
-    note_if(&mut range, param, 0);
-    let mut live = Vec::with_capacity(alloc, p.blocks.len())?;
-    for _ in 0..p.blocks.len() {
-        live.push(false)?;
-    }
-    let mut again = true;
-    while again {
-        again = sweep(p, v, &mut live, count, &mut range);
+    let _values = p.values;
+    let mark = v + 1;
+    let mut range = range_at_start(p, v);
+    let mut stack = Vec::new(alloc);
+    visit_all(marks, &mut stack, &mut range, occurrences, mark)?;
+    while let Some(t) = stack.pop() {
+        widen(&mut range, starts[t as usize]);
+        visit_all(
+            marks,
+            &mut stack,
+            &mut range,
+            sources[t as usize].as_slice(),
+            mark,
+        )?;
     }
     Ok(range)
 }
 
-pub fn ranges_of(alloc: Global, p: &BlockProc, count: u32) -> Result<Vec<Range>, AllocError>
+pub fn ranges_of(alloc: Global, p: &BlockProc) -> Result<Vec<Range>, AllocError>
     requires named { IsNamed p.now }
-    requires count { count ≡ total p.now.blocks }
-    requires size { count < 2 ^ 32 - 1 }
+    requires size { total p.now.blocks < 2 ^ 32 - 1 }
     ensures { IfOk result (λ rs. Ranges p.now rs.items) }
 {
-    let mut ranges = Vec::new(alloc);
+    let occurrences = occurrences_of(alloc, p)?;
+    let sources = sources_of(alloc, p)?;
+    let starts = starts_of(alloc, p)?;
+    let mut marks = filled(alloc, p.blocks.len(), 0)?;
+    let mut ranges = Vec::with_capacity(alloc, occurrences.len())?;
     for v in 0..p.values {
-        ranges.push(range_of(alloc, p, count, v)?)?;
+        let named = occurrences[v as usize].as_slice();
+        ranges.push(range_of(
+            alloc,
+            p,
+            v,
+            named,
+            sources.as_slice(),
+            starts.as_slice(),
+            &mut marks,
+        )?)?;
     }
     Ok(ranges)
 }

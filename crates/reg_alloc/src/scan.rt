@@ -95,7 +95,7 @@ fn choose(
     }
 }
 
-fn filled(alloc: Global, len: usize, item: u32) -> Result<Vec<u32>, AllocError>
+pub fn filled(alloc: Global, len: usize, item: u32) -> Result<Vec<u32>, AllocError>
     ensures len { IfOk result (λ v. length v.items ≡ len) }
     ensures all { IfOk result (λ v. (u : ℕ) → u < len → slice_index v.items u ≡ item) }
 {
@@ -159,7 +159,7 @@ fn homes_by_scan(alloc: Global, p: &BlockProc, count: u32) -> Result<List<Home>,
     ensures slots { IfOk result (λ homes. SlotsCrowded p.now homes) }
 {
     let _values = p.values;
-    let ranges = ranges_of(alloc, p, count)?;
+    let ranges = ranges_of(alloc, p)?;
     let choices = scan(alloc, p, ranges.as_slice())?;
     let homes = homes_of(alloc, choices.as_slice())?;
     Ok(List::from_vec(homes))

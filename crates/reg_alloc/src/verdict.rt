@@ -5,7 +5,7 @@ ghost use Rattle.flatten.specs.Named.{AllBelow};
 ghost use Rattle.flatten.specs.Paths.{uses_of, end_uses};
 ghost use Rattle.block_homes.specs.Held.{total};
 ghost use Rattle.block_homes.specs.Valid.{InsnBelow, IsNamed, AreHomes, IsVerdict};
-ghost use Rattle.reg_alloc.specs.Rows.{Places, InvOf, holds, HoldsFrom, FirstFail, BlockAnswer, Judged};
+ghost use Rattle.reg_alloc.specs.Rows.{Places, InvOf, width, holds, HoldsFrom, FirstFail, BlockAnswer, Judged};
 
 use crate::flow::analyse;
 use crate::places::{places_of, run_insn};
@@ -126,7 +126,7 @@ fn judge(
     rows: &[List<u32>],
 ) -> Result<Verdict, AllocError>
     requires named { IsNamed p.now }
-    requires places { Places p.now.values (32 + p.now.values) places.now }
+    requires places { Places p.now.values (width places.now) places.now }
     requires rows { InvOf places.now p.now rows.now [] 0 [] }
     requires size { total p.now.blocks < 2 ^ 32 }
     ensures { IfOk result (λ v. Judged places.now p.now v) }
@@ -164,8 +164,9 @@ pub fn count_insns(p: &BlockProc) -> Result<u32, Memory>
 fn verdict_of(alloc: Global, p: &BlockProc, places: &[usize]) -> Result<Verdict, AllocError>
     requires some { 0 < length p.now.blocks }
     requires named { IsNamed p.now }
-    requires places { Places p.now.values (32 + p.now.values) places.now }
+    requires places { Places p.now.values (width places.now) places.now }
     requires size { total p.now.blocks < 2 ^ 32 }
+    requires width { width places.now < 2 ^ 64 }
     ensures { IfOk result (λ v. Judged places.now p.now v) }
 {
     let rows = analyse(alloc, p, places)?;
@@ -182,6 +183,7 @@ pub fn validate(alloc: Global, p: &BlockProc, a: &Assignment) -> Result<Verdict,
     if p.blocks.len() == 0 {
         return Ok(Verdict::Yes);
     }
+    let _values = p.values;
     let _size = count_insns(p)?;
     let places = places_of(alloc, a.homes.as_slice())?;
     let verdict = verdict_of(alloc, p, places.as_slice())?;

@@ -1,6 +1,6 @@
 use Rattle.std.proofs.Common.{sym, ◌+◌, ℕ, List, [], length, arith, subst}
 use Rattle.reg_alloc.specs.Steps.{Among, next_of, init_of, step_of}
-use Rattle.reg_alloc.specs.Rows.{InvOf}
+use Rattle.reg_alloc.specs.Rows.{InvOf, width}
 use Rattle.reg_alloc.proofs.Analysis.{among_last, taken}
 use Rattle.reg_alloc.proofs.Visiting.{row_within}
 use Rattle.reg_alloc.proofs.flow.analyse.Goals as goal
@@ -16,4 +16,4 @@ visit-requires-clause-at c =
 
 pub visit-requires-clause-inv : goal.visit-requires-clause-inv
 visit-requires-clause-inv c =
-    taken (length c.args.p.now.blocks) (32 + c.args.p.now.values) c.args.p.now.values (init_of c.args.places.now c.args.p.now) (step_of c.args.places.now c.args.p.now) (next_of c.args.p.now.blocks) (omega arith) c.loop-b.rows.items c.pop.new.self.items c.in-Some.b 0 (subst (λ (s : List ℕ). InvOf c.args.places.now c.args.p.now c.loop-b.rows.items s 0 []) c.in-Some.ensures.items c.loop-b.invariant)
+    taken (length c.args.p.now.blocks) (width c.args.places.now) c.args.p.now.values (init_of c.args.places.now c.args.p.now) (step_of c.args.places.now c.args.p.now) (next_of c.args.p.now.blocks) (omega arith) c.loop-b.rows.items c.pop.new.self.items c.in-Some.b 0 (subst (λ (s : List ℕ). InvOf c.args.places.now c.args.p.now c.loop-b.rows.items s 0 []) c.in-Some.ensures.items c.loop-b.invariant)

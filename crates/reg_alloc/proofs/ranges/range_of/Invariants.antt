@@ -1,22 +1,13 @@
-use Rattle.std.proofs.Common.{◌≡◌, ℕ, ◌<◌, ◌+◌, cond, length, false}
-use Rattle.std.specs.Prelude.{slice_index_or}
-use Rattle.reg_alloc.specs.Ranges.{Known, RangeOk, Covers, falses, Settled}
+use Rattle.std.proofs.Common.{◌≡◌, ◌<◌, ◌+◌, length}
+use Rattle.reg_alloc.specs.Occurs.{unmarked, in_blocks}
+use Rattle.reg_alloc.specs.Ranges.{Covers, Search}
 use Rattle.reg_alloc.proofs.ranges.range_of.Given as goal
 
-abbrev pub invariant-loop : goal.invariant-loop
-invariant-loop l = record {
-  so_far : length l.live.items ≡ l.counter;
-  none : (b : ℕ) → slice_index_or l.live.items b false ≡ false;
+abbrev pub invariant-loop-t : goal.invariant-loop-t
+invariant-loop-t l = record {
+  search : Search l.fn.p l.fn.v (l.fn.v + 1) (in_blocks l.fn.v 0 0 l.fn.p.blocks) l.marks.items l.stack.items l.range;
+  param : l.fn.v < l.fn.p.params → Covers l.range 0;
 }
 
-abbrev pub invariant-loop-again : goal.invariant-loop-again
-invariant-loop-again l = record {
-  many : length l.live.items ≡ length l.p.blocks;
-  known : Known l.p l.v l.live.items;
-  range : RangeOk l.p l.v l.range;
-  param : l.v < l.p.params → Covers l.range 0;
-  settled : l.again ≡ false → Settled l.p l.v l.live.items l.range;
-}
-
-abbrev pub decreases-loop-again : goal.decreases-loop-again
-decreases-loop-again l = falses l.live.items + cond l.again 1 0
+abbrev pub decreases-loop-t : goal.decreases-loop-t
+decreases-loop-t l = unmarked l.mark l.marks.items + length l.stack.items
