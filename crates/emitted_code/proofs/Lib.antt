@@ -1,0 +1,4 @@
+pub mod Data
+pub mod Constants
+pub mod FrameWords
+pub mod Relate
