@@ -17,7 +17,7 @@ pub record Puts (low high a v : ℕ) (d : Data) (xs : List Straight) : Type 0 wh
   pub safe : AreSafe low high xs d
   pub small : Small d.regs → Small (acts xs d).regs
 
-regroup : (xs : List Straight) (x : Straight) (ys : List Straight) → (xs ++ x ∷ []) ++ ys ≡ xs ++ (x ∷ ys)
+pub regroup : (xs : List Straight) (x : Straight) (ys : List Straight) → (xs ++ x ∷ []) ++ ys ≡ xs ++ (x ∷ ys)
 regroup [] x ys = refl
 regroup (z ∷ xs) x ys = ap (λ t. z ∷ t) (regroup xs x ys)
 

@@ -283,8 +283,8 @@ module _ (q : BlockProgram) (hs : List Assignment) (g : Placement) (room : HasRo
     frame = frame_moved w.proc l (record { regs = regs; mem = mem }) (record { regs = regs; mem = mem' }) (Suspended ws mem) (Suspended ws mem') s.laid refl (λ h k n. refl) (λ a lo hi. e a (omega arith) (omega arith)) (λ r u t. apart ws mem mem' r (λ a lo hi. e a (omega arith) hi) t) s.frame;
   })
 
-  -- what holds between the instructions of a procedure
-  pub record Holds (i : ℕ) (f : BlockProc) (rest : List BlockInsn) (end : BlockEnd) (env : List ℕ) (w : World) (stack : List B.Waiting) (d : Data) : Type 0 where
+  -- what holds between the instructions of a procedure, besides what its homes hold
+  pub record Body (l : Layout) (w : World) (stack : List B.Waiting) (d : Data) : Type 0 where
     pub memory : (a : ℕ) → IsOwn (length q.image) g a → d.mem a ≡ w.memory a
     pub bytes : AreBytes d.mem
     pub zero : d.regs 0 ≡ 0
@@ -292,5 +292,11 @@ module _ (q : BlockProgram) (hs : List Assignment) (g : Placement) (room : HasRo
     pub low : floor ≤ d.regs 2
     pub aligned : d.regs 2 % 8 ≡ 0
     pub small : Small d.regs
-    pub at : At f (places_of (lay i f).homes) rest end env (cells (lay i f) d)
-    pub frame : Frame (lay i f) d (Suspended stack d.mem)
+    pub frame : Frame l d (Suspended stack d.mem)
+
+  -- the frames end where the objects begin
+  pub spans : (l : Layout) (w : World) (stack : List B.Waiting) (d : Data) → Body l w stack d → d.regs 2 + l.size + sizes stack ≡ top
+  spans l w stack d b =
+      let e = depth stack d.mem b.frame.caller b.frame.rest in
+      let up = b.frame.above in
+      omega arith
