@@ -17,6 +17,7 @@ use Rattle.flatten.specs.declared.blocks.BlockEnd.{BlockEnd}
 use Rattle.flatten.specs.declared.blocks.BlockProc.{BlockProc}
 use Rattle.flatten.specs.declared.blocks.BlockProgram.{BlockProgram}
 use Rattle.flatten.specs.Blocks as B
+use Rattle.flatten.specs.Named.{AllBelow}
 use Rattle.flatten.specs.Paths.{sets}
 use Rattle.block_homes.specs.declared.homes.Home.{Home}
 use Rattle.block_homes.specs.declared.homes.Home.TheVariants as H
@@ -35,11 +36,11 @@ use Rattle.emitted_code.proofs.Data.{Data, set, act, acts, acts_append, IsTarget
 use Rattle.emitted_code.proofs.Constants.{gets_number, number_few}
 use Rattle.emitted_code.proofs.FrameWords.{regroup, word_few, store_few, puts_word}
 use Rattle.emitted_code.proofs.Small.{result_small, extended_small}
-use Rattle.emitted_code.proofs.Relate.{at_home, cells, Laid, cell_home, Frame, frame_moved, homes_same, Stays, at_alike, IsOwn, Suspended, apart, Body, spans}
+use Rattle.emitted_code.proofs.Relate.{at_home, cells, Laid, cell_home, Frame, frame_moved, homes_same, Stays, at_alike, IsOwn, Suspended, apart, Body, spans, sizes}
 use Rattle.emitted_code.proofs.Values.{use_low, set_low, IsApart, kept_apart, Wrote, result_target, operand_low, apart_seven, fetched_stays, five, free_target, reads, fetches, home_small, scratched, scratched_at, reaches, stays_of}
 use Rattle.emitted_code.proofs.Operands.{Scratches, Computes, gets_computes, computes_last, fetched_scratches, settles, Two, fetches_two, apart_not}
 use Rattle.emitted_code.proofs.Access.{Owned, owned, owned_reach, owned_bytes, owned_apart, load_done, store_done, put_same}
-use Rattle.emitted_code.proofs.Laws.{Went, goes}
+use Rattle.emitted_code.proofs.Laws.{Went, went_then, goes}
 use Rattle.emitted_code.proofs.States.{Told, told_after, Given, L, at_places, Body_of, Related, going, Again, Now, proceeds, goes_wrong, has_set, some}
 
 mid_get : (ran : List BlockInsn) (y : BlockInsn) (rest : List BlockInsn) → slice_get (ran ++ y ∷ rest) (length ran) ≡ Some y
@@ -247,3 +248,140 @@ module _ (q : BlockProgram) (hs : List Assignment) (g : Placement) (On : ℕ →
           let fine = by_last f l w stack d h val xs (LoadFrom s is_signed rd ry 0) is (is.homes v lv) rel.body sc e (result_target f.values h (is.homes v lv), operand_low f.values 5 hy iy (omega arith), subst (λ k. (k % size ≡ 0) × (lo ≤ k) × (k + size ≤ hi)) (sym there) reach) lt in
           let n2 = length-append xs (LoadFrom s is_signed rd ry 0 ∷ settle l h) in
           straight_set n again f (I.Load v s is_signed y) rest end env w stack r rel v val (xs ++ (LoadFrom s is_signed rd ry 0 ∷ settle l h)) rel.on refl lt fine (omega (arith, n2)) (omega (arith, n2, fetch_few l hy 5, settle_few l h)) (λ m. ap (λ o. B.if_value o (F.seen w Wrong) (λ val. run_of f rest end (slice_set env v (extended s is_signed val)) w stack m)) eo)
+
+  -- the program's own memory is written
+  body_stored : (f : BlockProc) (l : Layout) (w : World) (stack : List B.Waiting) (d : Data) (size a v : ℕ) → Laid f l → Owned size (length q.image) g a → Body q hs g x.can.room Addr l w stack d
+      → Body q hs g x.can.room Addr l (with_memory w (put size w.memory a v)) stack (record { regs = d.regs; mem = put size d.mem a v })
+  body_stored f l w stack d size a v is own b =
+      let d' : Data = record { regs = d.regs; mem = put size d.mem a v } in
+      let bottom = b.low in
+      let all = spans q hs g x.can.room Addr l w stack d b in
+      let off : (i : ℕ) → d.regs 2 ≤ i → i < d.regs 2 + l.size + sizes stack → d'.mem i ≡ d.mem i = λ i low high. put_apart size d.mem a v i (owned_apart size (length q.image) g a i own (omega arith) (omega arith)) in
+      record {
+        memory = λ i o. put_same size w.memory d.mem a v i (b.memory i o);
+        bytes = put_bytes size d.mem a v b.bytes;
+        zero = b.zero;
+        base = b.base;
+        low = b.low;
+        aligned = b.aligned;
+        small = b.small;
+        frame = (let fits' = is.fits in let up = b.frame.above in frame_moved f l d d' (Suspended q hs g x.can.room Addr stack d.mem) (Suspended q hs g x.can.room Addr stack d'.mem) is refl (λ h k n. refl) (λ i low high. off i (omega arith) (omega arith)) (λ ρ e t. apart q hs g x.can.room Addr stack d.mem d'.mem ρ (λ i low high. off i (omega arith) (omega arith)) t) b.frame);
+      }
+
+  at_stored : (f : BlockProc) (l : Layout) (rest : List BlockInsn) (end : BlockEnd) (env : List ℕ) (w : World) (stack : List B.Waiting) (d : Data) (size a v : ℕ) → Laid f l → Owned size (length q.image) g a → Body q hs g x.can.room Addr l w stack d
+      → At f (places_of l.homes) rest end env (cells l d) → At f (places_of l.homes) rest end env (cells l (record { regs = d.regs; mem = put size d.mem a v }))
+  at_stored f l rest end env w stack d size a v is own b at =
+      let d' : Data = record { regs = d.regs; mem = put size d.mem a v } in
+      let bottom = b.low in
+      let all = spans q hs g x.can.room Addr l w stack d b in
+      at_alike f (places_of l.homes) rest end env (cells l d) (cells l d') (λ u lt. cell_home f l d' u is lt ∙ (homes_same f l d d' (home_of l u) (is.homes u lt) is refl (λ h k. refl) (λ i low high. put_apart size d.mem a v i (owned_apart size (length q.image) g a i own (omega arith) (omega arith))) ∙ sym (cell_home f l d u is lt))) at
+
+  pub store_case : (n : ℕ) → Again q hs g On Addr Labelled x n → (f : BlockProc) (s : Width) (y z : ℕ) (rest : List BlockInsn) (end : BlockEnd) (env : List ℕ) (w : World) (stack : List B.Waiting) (r : Run) → Rel f (I.Store s y z ∷ rest) end env w stack r → Now q hs g On Addr Labelled x (suc n) (run_of f (I.Store s y z ∷ rest) end env w stack) r
+  store_case n again f s y z rest end env w stack r rel = go (stored (size_of_width s) (at_places q hs g On Addr Labelled x).areas w.memory (slice_index env y) (slice_index env z)) refl
+    where
+      a : ℕ
+      a = slice_index env y
+
+      v : ℕ
+      v = slice_index env z
+
+      size : ℕ
+      size = size_of_width s
+
+      go : (o : Option Bytes) → stored size (at_places q hs g On Addr Labelled x).areas w.memory a v ≡ o → Now q hs g On Addr Labelled x (suc n) (run_of f (I.Store s y z ∷ rest) end env w stack) r
+      go None eo = goes_wrong q hs g On Addr Labelled x (suc n) (run_of f (I.Store s y z ∷ rest) end env w stack) w r rel.told (x.laws.ready rel.number _ rel.data' r rel.on) refl (λ m. ap (λ o. B.if_value o (F.seen w Wrong) (λ k. run_of f rest end env (with_memory w k) stack m)) eo)
+      go (Some m') eo =
+          let l = Lay rel.number f in
+          let d = rel.data' in
+          let hy = home_of l y in
+          let hz = home_of l z in
+          let is = x.laid rel.number f rel.is in
+          let iy = home_low f (I.Store s y z ∷ rest) end env w stack r rel y (0, omega arith, refl) in
+          let iz = home_low f (I.Store s y z ∷ rest) end env w stack r rel z (1, omega arith, refl) in
+          let ey = home_is f (I.Store s y z ∷ rest) end env w stack r rel y (0, omega arith, refl) in
+          let ez = home_is f (I.Store s y z ∷ rest) end env w stack r rel z (1, omega arith, refl) in
+          let done = store_done size (at_places q hs g On Addr Labelled x).areas w.memory m' a v eo in
+          let own = owned size (length q.image) g a done.0 in
+          let reach = owned_reach size (length q.image) g a own in
+          let up = reach.2 in
+          let big = x.bounded in
+          let dear = x.dear in
+          let xs = fetch l hy 5 ++ fetch l hz 6 in
+          let ry = operand_register hy 5 in
+          let rz = operand_register hz 6 in
+          let t = fetches_two q hs g x.can.room Addr x.bounded f l w stack d hy hz is iy iz rel.body in
+          let d1 = acts xs d in
+          let there : (d1.regs ry + 0) % 2 ^ 64 ≡ a = (let e1 = t.left ∙ ey in omega arith) in
+          let last = StoreTo s rz ry 0 in
+          let st : Stays d d1 = record { zero = t.scratches.others 0 (inl (omega arith)); sp = t.scratches.others 2 (inl (omega arith)); base = t.scratches.others 3 (inl (omega arith)); kept = λ h k. t.scratches.others h (kept_apart h k); small = t.scratches.small rel.body.small } in
+          let b1 = scratched q hs g x.can.room Addr x.bounded f l w stack d d1 is st t.scratches.mem rel.body in
+          let at1 = scratched_at q hs g x.can.room Addr x.bounded f l (I.Store s y z ∷ rest) end env d d1 is st t.scratches.mem rel.at in
+          let d2 : Data = record { regs = d1.regs; mem = put size d1.mem a v } in
+          let e2 : acts (xs ++ last ∷ []) d ≡ d2 = acts_append xs (last ∷ []) d ∙ (ap (λ k. record { regs = d1.regs; mem = put size d1.mem k (d1.regs rz) }) there ∙ ap (λ k. record { regs = d1.regs; mem = put size d1.mem a k }) (t.right ∙ ez)) in
+          let sf = safe_append lo hi xs (last ∷ []) d t.scratches.safe ((operand_low f.values 6 hz iz (omega arith), operand_low f.values 5 hy iy (omega arith), subst (λ k. (k % size ≡ 0) × (lo ≤ k) × (k + size ≤ hi)) (sym there) reach), tt) in
+          let code = rest_code l rest end rel.tail in
+          let went = goes q hs g On Addr Labelled x.laws rel.number (xs ++ last ∷ []) code d r rel.on sf in
+          let b2 = body_stored f l w stack d1 size a v is own b1 in
+          let at2 = at_stored f l (I.Store s y z ∷ rest) end env w stack d1 size a v is own b1 at1 in
+          let few = length-append xs (last ∷ []) in
+          let few1 = length-append (fetch l hy 5) (fetch l hz 6) in
+          proceeds q hs g On Addr Labelled x n again (run_of f (I.Store s y z ∷ rest) end env w stack) w r rel.told (x.laws.ready rel.number _ rel.data' r rel.on) f rest end env (with_memory w m') stack (length (xs ++ last ∷ [])) went.run went.leads (omega (arith, few)) (omega (arith, few, few1, fetch_few l hy 5, fetch_few l hz 6))
+              (record {
+                number = rel.number;
+                is = rel.is;
+                data' = d2;
+                tail = rel.tail;
+                on = subst (λ e. On rel.number code e went.run) e2 went.on;
+                told = (let k = told_after (length (xs ++ last ∷ [])) r went.run w went.leads rel.told in record { left = k.left; taken = k.taken; output = k.output });
+                frames = rel.frames;
+                level = rel.level;
+                at = moved_none f (places_of l.homes) (I.Store s y z) rest end env (cells l d2) refl at2;
+                body = subst (λ m. Body q hs g x.can.room Addr l (with_memory w m) stack d2) done.1 b2;
+              }) refl (λ m. ap (λ o. B.if_value o (F.seen w Wrong) (λ k. run_of f rest end env (with_memory w k) stack m)) eo)
+
+  -- an address, and then it goes to its home
+  address_done : (n : ℕ) → Again q hs g On Addr Labelled x n → (f : BlockProc) (y : BlockInsn) (rest : List BlockInsn) (end : BlockEnd) (env : List ℕ) (w : World) (stack : List B.Waiting) (r : Run) (rel : Rel f (y ∷ rest) end env w stack r) (v val : ℕ)
+      → Went q hs g On Addr Labelled 2 rel.number (lines (settle (Lay rel.number f) (home_of (Lay rel.number f) v)) (rest_code (Lay rel.number f) rest end rel.tail)) (set rel.data' (result_register (home_of (Lay rel.number f) v)) val) r
+      → sets y ≡ v ∷ [] → val < 2 ^ 64 → ((m : ℕ) → run_of f (y ∷ rest) end env w stack (suc m) ≡ run_of f rest end (slice_set env v val) w stack m) → Now q hs g On Addr Labelled x (suc n) (run_of f (y ∷ rest) end env w stack) r
+  address_done n again f y rest end env w stack r rel v val a es lt e =
+      let l = Lay rel.number f in
+      let d = rel.data' in
+      let h = home_of l v in
+      let rd = result_register h in
+      let is = x.laid rel.number f rel.is in
+      let lv = subst (λ vs. AllBelow f.values vs) es (set_low f (places_of l.homes) y rest end env (cells l d) rel.at) in
+      let ih = is.homes v lv.0 in
+      let d1 = set d rd val in
+      let code = rest_code l rest end rel.tail in
+      let done = settled f l w stack d h val is ih rel.body lt in
+      let b = goes q hs g On Addr Labelled x.laws rel.number (settle l h) code d1 a.run a.on done.1 in
+      let went = went_then q hs g On Addr Labelled 2 (length (settle l h)) rel.number rel.number (lines (settle l h) code) code d1 (acts (settle l h) d1) r a b in
+      let dear = x.dear in
+      proceeds q hs g On Addr Labelled x n again (run_of f (y ∷ rest) end env w stack) w r rel.told (x.laws.ready rel.number _ rel.data' r rel.on) f rest end (slice_set env v val) w stack (2 + length (settle l h)) went.run went.leads (omega arith) (omega (arith, settle_few l h))
+          (has_set q hs g On Addr Labelled x f y rest end env w stack r rel v val (2 + length (settle l h)) (acts (settle l h) d1) went es lt done.0) refl e
+    where
+      settled : (f : BlockProc) (l : Layout) (w : World) (stack : List B.Waiting) (d : Data) (h : Home) (val : ℕ) → Laid f l → IsHome f.values h → Body q hs g x.can.room Addr l w stack d → val < 2 ^ 64
+          → Wrote l h val d (acts (settle l h) (set d (result_register h) val)) × AreSafe lo hi (settle l h) (set d (result_register h) val)
+      settled f l w stack d (H.Register r) val is ih b lt = (
+        record {
+          to = (poke_same d.regs r val r refl, (λ k n a. poke_apart d.regs r val k n), refl);
+          small = poke_small d.regs r val b.small lt;
+        },
+        tt,
+      )
+      settled f l w stack d (H.Slot k) val is ih b lt =
+          let fits' = is.fits in
+          let d1 = set d 5 val in
+          let e0 : d1.regs 0 ≡ d.regs 0 = poke_apart d.regs 5 val 0 (λ z. omega arith) in
+          let e2 : d1.regs 2 ≡ d.regs 2 = poke_apart d.regs 5 val 2 (λ z. omega arith) in
+          let e5 : d1.regs 5 ≡ val = poke_same d.regs 5 val 5 refl in
+          let p = puts_word lo hi x.bounded 5 (slot_at l k) d1 (omega arith) (λ z. omega arith) (subst (λ a. (((a + slot_at l k) % 8 ≡ 0) × (lo ≤ a + slot_at l k) × (a + slot_at l k + 8 ≤ hi))) (sym e2) (reaches q hs g x.can.room Addr x.bounded l w stack d (slot_at l k) b (omega arith) (omega arith))) (e0 ∙ b.zero) in (
+            record {
+              to = (
+                (λ j n. p.others j (apart_seven j n) ∙ poke_apart d.regs 5 val j (apart_not j 5 n (omega arith, omega arith))),
+                p.mem ∙ (ap (λ a. put 8 d.mem (a + slot_at l k) (d1.regs 5)) e2 ∙ ap (λ n. put 8 d.mem (d.regs 2 + slot_at l k) n) e5),
+              );
+              small = p.small (poke_small d.regs 5 val b.small lt);
+            },
+            p.safe,
+          )

@@ -62,7 +62,9 @@ mixed_mag x b hx hb =
 
 whole_product : (a b : ℕ) → a < 2 ^ 64 → b < 2 ^ 64 → a * b / 2 ^ 64 < 2 ^ 64
 whole_product a b ha hb =
-    let p : a * b ≤ (2 ^ 64 - 1) * (2 ^ 64 - 1) = mul-le-mul (omega arith) (omega arith) in
+    let la : a ≤ 2 ^ 64 - 1 = omega arith in
+    let lb : b ≤ 2 ^ 64 - 1 = omega arith in
+    let p : a * b ≤ (2 ^ 64 - 1) * (2 ^ 64 - 1) = mul-le-mul la lb in
     omega arith
 
 signed_mag : (a : ℕ) → a < 2 ^ 64 → mag (to_z w64 a) < 2 ^ 63
@@ -96,9 +98,9 @@ result_small O.Sllw a b ha hb = word_small (a % 2 ^ 32 * 2 ^ (b % 32))
 result_small O.Srlw a b ha hb = word_small (a % 2 ^ 32 / 2 ^ (b % 32))
 result_small O.Sraw a b ha hb = shr_small (to_z w32 (a % 2 ^ 32)) (b % 32) (let m = word_mag a in omega arith)
 result_small O.Mulw a b ha hb = word_small (a * b)
-result_small O.Divw a b ha hb = cond_small (nat_eq (alu.low_word b) 0) (2 ^ 64 - 1) _ (omega arith) (cond_small (nat_eq (alu.low_word a) (2 ^ 31) && nat_eq (alu.low_word b) (2 ^ 32 - 1)) (alu.extended_word a) _ (word_small a) (ext_small w32 _ (omega arith)))
+result_small O.Divw a b ha hb = cond_small (nat_eq (alu.low_word b) 0) (2 ^ 64 - 1) _ (omega arith) (cond_small (nat_eq (alu.low_word a) (2 ^ 31) && nat_eq (alu.low_word b) (2 ^ 32 - 1)) (alu.extended_word a) _ (word_small a) (ext_small w32 (of_z w32 (int_div (alu.signed_word a) (alu.signed_word b))) (omega arith)))
 result_small O.Divuw a b ha hb = cond_small (nat_eq (alu.low_word b) 0) (2 ^ 64 - 1) _ (omega arith) (word_small (alu.low_word a / alu.low_word b))
-result_small O.Remw a b ha hb = cond_small (nat_eq (alu.low_word b) 0) (alu.extended_word a) _ (word_small a) (cond_small (nat_eq (alu.low_word a) (2 ^ 31) && nat_eq (alu.low_word b) (2 ^ 32 - 1)) 0 _ (omega arith) (ext_small w32 _ (omega arith)))
+result_small O.Remw a b ha hb = cond_small (nat_eq (alu.low_word b) 0) (alu.extended_word a) _ (word_small a) (cond_small (nat_eq (alu.low_word a) (2 ^ 31) && nat_eq (alu.low_word b) (2 ^ 32 - 1)) 0 _ (omega arith) (ext_small w32 (of_z w32 (int_rem (alu.signed_word a) (alu.signed_word b))) (omega arith)))
 result_small O.Remuw a b ha hb = cond_small (nat_eq (alu.low_word b) 0) (alu.extended_word a) _ (word_small a) (word_small (alu.low_word a % alu.low_word b))
 
 pub extended_small : (w : J.Width) (is_signed : Bool) (v : ℕ) → v < 256 ^ size_of_width w → extended w is_signed v < 2 ^ 64

@@ -1,7 +1,7 @@
 -- States of the blocks and runs of the machine that stand for each other, and one step of both.
 use Rattle.std.proofs.Common.{◌≡◌, ℕ, zero, suc, ◌+◌, ◌-◌, ◌*◌, ◌/◌, ◌%◌, ◌^◌, ◌<◌, ◌≤◌, ◌⊎◌, inl, inr, Bool, true, false, cond, List, [], ◌∷◌, ◌++◌, length, Option, Some, None, refl, sym, ap, ◌∙◌, subst, arith}
 use Rattle.std.specs.Prelude.{slice_get, slice_set, slice_index}
-use Rattle.behaviour.specs.Behaviour.{Running, Wrong, Seen, Behaviour}
+use Rattle.behaviour.specs.Behaviour.{Ending, Running, Wrong, Seen, Behaviour}
 use Rattle.work.specs.Units.{unit, ended}
 use Rattle.work.specs.Same.{Same}
 use Rattle.work.proofs.Same.{alike_first, wrong}
@@ -53,11 +53,14 @@ told_after n r r' w l t =
 pub ready_after : (n : ℕ) (r r' : Run) → Leads n r r' → r'.state.mode ≡ mode.Ready
 ready_after n r r' l = ap (λ (x : Run). x.state.mode) (sym l.ends) ∙ (l.quiet n (omega arith)).ready
 
+abbrev so : List ℕ → ℕ → Ending → Seen
+so o t e = record { output = o; taken = t; ending = e }
+
 pub seen_now : (r : Run) (w : World) → r.state.mode ≡ mode.Ready → Told r w → seen r ≡ F.seen w Running
 seen_now r w ready t = same r.output w.output r.taken w.taken r.state.mode t.output t.taken ready
   where
-    same : (o o' : List ℕ) (t t' : ℕ) (m : Mode) → o ≡ o' → t ≡ t' → m ≡ mode.Ready → record { output = o; taken = t; ending = mode_ending m } ≡ record { output = o'; taken = t'; ending = Running }
-    same o o' t t' m p q s = λ i. record { output = p i; taken = q i; ending = mode_ending (s i) }
+    same : (o o' : List ℕ) (t t' : ℕ) (m : Mode) → o ≡ o' → t ≡ t' → m ≡ mode.Ready → so o t (mode_ending m) ≡ so o' t' Running
+    same o o' t t' m p q s = λ i. so (p i) (q i) (mode_ending (s i))
 
 module _ (q : BlockProgram) (hs : List Assignment) (g : Placement) (On : ℕ → List AsmLine → Data → Run → Type 0) (Addr : ℕ → List AsmLine → ℕ → Type 0) (Labelled : ℕ → ℕ → List AsmLine → Type 0) where
   -- where a block's code stands, and the end at the limit
