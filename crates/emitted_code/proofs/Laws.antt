@@ -64,7 +64,7 @@ module _ (q : BlockProgram) (hs : List Assignment) (g : Placement) (On : ℕ →
     pub call : (i p : ℕ) (f : BlockProc) (ls : List AsmLine) (d : Data) (r : Run) → On i (Call (proc_name p) ∷ ls) d r → IsProc q p f → Called 2 i ls p f d r
     pub call_at : (i p : ℕ) (f : BlockProc) (ls : List AsmLine) (d : Data) (r : Run) → On i (Plain (M.Jalr 1 6 0) ∷ ls) d r → IsProc q p f → d.regs 6 < 2 ^ 64 → d.regs 6 ≡ g.procs p → Called 1 i ls p f d r
     pub back : (i j : ℕ) (ls to : List AsmLine) (d : Data) (r : Run) → On i (Plain (M.Jalr 0 1 0) ∷ ls) d r → Addr j to (d.regs 1) → Went 1 j to d r
-    pub proc_address : (i p rd : ℕ) (f : BlockProc) (ls : List AsmLine) (d : Data) (r : Run) → On i (Address rd (proc_name p) 0 ∷ ls) d r → IsTarget rd → IsProc q p f → Went 2 i ls (set d rd (g.procs p)) r
+    pub proc_address : (i p rd : ℕ) (f : BlockProc) (ls : List AsmLine) (d : Data) (r : Run) → On i (Address rd (proc_name p) 0 ∷ ls) d r → IsTarget rd → IsProc q p f → g.procs p < 2 ^ 64 → Went 2 i ls (set d rd (g.procs p)) r
     pub image_address : (i n rd : ℕ) (ls : List AsmLine) (d : Data) (r : Run) → On i (Address rd image_name (image_place n) ∷ ls) d r → IsTarget rd → n ≤ length q.image → Went 2 i ls (set d rd (g.image + n)) r
     pub takes : (i : ℕ) (b : ℕ) (bs : List ℕ) (ls : List AsmLine) (d : Data) (r : Run) → On i (Plain M.Ecall ∷ ls) d r → d.regs 17 ≡ 63 → r.left ≡ b ∷ bs
         → Turned i ls (set d 10 b) r (record { state = (turn r).state; left = bs; taken = r.taken + 1; output = r.output })

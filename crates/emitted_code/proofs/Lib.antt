@@ -10,3 +10,4 @@ pub mod Operands
 pub mod States
 pub mod Access
 pub mod Simple
+pub mod Ends

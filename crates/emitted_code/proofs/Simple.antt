@@ -29,10 +29,10 @@ use Rattle.block_homes.proofs.Lockstep.{At, used, moved_none}
 use Rattle.rv_assemble.specs.declared.unit.AsmLine.{AsmLine}
 use Rattle.rv_machine.specs.Exec.{Run}
 use Rattle.emitted_code.specs.Straight.{Straight, Operate, LoadFrom, StoreTo, lines, load_number, load_word, store_word}
-use Rattle.emitted_code.specs.Frames.{Layout, home_of, slot_at}
+use Rattle.emitted_code.specs.Frames.{Layout, home_of, slot_at, is_charged}
 use Rattle.emitted_code.specs.Code.{operand_register, fetch, result_register, settle, read, write, copy, rest_code}
 use Rattle.emitted_code.specs.Room.{IsProc, HasInsn, InsnFits, CanEmit}
-use Rattle.emitted_code.proofs.Data.{Data, set, act, acts, acts_append, IsTarget, Safe, AreSafe, safe_append, Gets, gets_one, Small, poke_small}
+use Rattle.emitted_code.proofs.Data.{Data, set, act, acts, acts_append, IsTarget, Safe, AreSafe, safe_append, Gets, gets_one, Small, poke_small, Compared, same, other, compared}
 use Rattle.emitted_code.proofs.Constants.{gets_number, number_few}
 use Rattle.emitted_code.proofs.FrameWords.{regroup, word_few, store_few, puts_word}
 use Rattle.emitted_code.proofs.Small.{result_small, extended_small}
@@ -332,7 +332,7 @@ module _ (q : BlockProgram) (hs : List Assignment) (g : Placement) (On : ℕ →
                 data' = d2;
                 tail = rel.tail;
                 on = subst (λ e. On rel.number code e went.run) e2 went.on;
-                told = (let k = told_after (length (xs ++ last ∷ [])) r went.run w went.leads rel.told in record { left = k.left; taken = k.taken; output = k.output });
+                told = (let k = told_after (length (xs ++ last ∷ [])) r went.run w went.leads rel.told in record { bytes = k.bytes; left = k.left; taken = k.taken; output = k.output });
                 frames = rel.frames;
                 level = rel.level;
                 at = moved_none f (places_of l.homes) (I.Store s y z) rest end env (cells l d2) refl at2;
@@ -385,3 +385,43 @@ module _ (q : BlockProgram) (hs : List Assignment) (g : Placement) (On : ℕ →
             },
             p.safe,
           )
+
+  none_past : (ps : List BlockProc) (i : ℕ) → slice_get ps i ≡ None → length ps ≤ i
+  none_past [] i e = omega arith
+  none_past (p ∷ ps) zero e = absurd (cc)
+  none_past (p ∷ ps) (suc i) e = (let h = none_past ps i e in omega arith)
+
+  pub proc_address_case : (n : ℕ) → Again q hs g On Addr Labelled x n → (f : BlockProc) (v p : ℕ) (rest : List BlockInsn) (end : BlockEnd) (env : List ℕ) (w : World) (stack : List B.Waiting) (r : Run) → Rel f (I.ProcAddress v p ∷ rest) end env w stack r → Now q hs g On Addr Labelled x (suc n) (run_of f (I.ProcAddress v p ∷ rest) end env w stack) r
+  proc_address_case n again f v p rest end env w stack r rel = go (slice_get q.procs p) refl
+    where
+      l : Layout
+      l = Lay rel.number f
+
+      has : HasInsn f (I.ProcAddress v p)
+      has = has_insn f (places_of l.homes) (I.ProcAddress v p) rest end env (cells l rel.data') rel.at
+
+      lv : v < f.values
+      lv = (set_low f (places_of l.homes) (I.ProcAddress v p) rest end env (cells l rel.data') rel.at).0
+
+      near : (d : BlockProc) → IsProc q p d → (b : Bool) → is_charged d ≡ b → Compared p q.entry → g.procs p < 2 ^ 64
+      near d ip true e c = x.near p d ip (inl e)
+      near d ip false e (other n) = x.near p d ip (inr n)
+      near d ip false e (same n) =
+          let ie : IsProc q q.entry d = subst (λ k. slice_get q.procs k ≡ Some d) n ip in
+          absurd ((x.can.room.alone d ie e).insns rel.number f rel.is (I.ProcAddress v p) has n)
+
+      go : (o : Option BlockProc) → slice_get q.procs p ≡ o → Now q hs g On Addr Labelled x (suc n) (run_of f (I.ProcAddress v p ∷ rest) end env w stack) r
+      go None eo = absurd (let lt = x.can.insns rel.number f rel.is (I.ProcAddress v p) has in let past = none_past q.procs p eo in omega arith)
+      go (Some d) eo =
+          let lt = near d eo (is_charged d) refl (compared p q.entry) in
+          let a = x.laws.proc_address rel.number p (result_register (home_of l v)) d (lines (settle l (home_of l v)) (rest_code l rest end rel.tail)) rel.data' r rel.on (result_target f.values (home_of l v) ((x.laid rel.number f rel.is).homes v lv)) eo lt in
+          address_done n again f (I.ProcAddress v p) rest end env w stack r rel v (g.procs p) a refl lt (λ m. refl)
+
+  pub image_address_case : (n : ℕ) → Again q hs g On Addr Labelled x n → (f : BlockProc) (v k : ℕ) (rest : List BlockInsn) (end : BlockEnd) (env : List ℕ) (w : World) (stack : List B.Waiting) (r : Run) → Rel f (I.ImageAddress v k ∷ rest) end env w stack r → Now q hs g On Addr Labelled x (suc n) (run_of f (I.ImageAddress v k ∷ rest) end env w stack) r
+  image_address_case n again f v k rest end env w stack r rel =
+      let l = Lay rel.number f in
+      let lv = (set_low f (places_of l.homes) (I.ImageAddress v k) rest end env (cells l rel.data') rel.at).0 in
+      let fit : k ≤ length q.image = x.can.insns rel.number f rel.is (I.ImageAddress v k) (has_insn f (places_of l.homes) (I.ImageAddress v k) rest end env (cells l rel.data') rel.at) in
+      let big = x.bounded in
+      let a = x.laws.image_address rel.number k (result_register (home_of l v)) (lines (settle l (home_of l v)) (rest_code l rest end rel.tail)) rel.data' r rel.on (result_target f.values (home_of l v) ((x.laid rel.number f rel.is).homes v lv)) fit in
+      address_done n again f (I.ImageAddress v k) rest end env w stack r rel v (g.image + k) a refl (omega arith) (λ m. refl)

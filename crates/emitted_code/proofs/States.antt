@@ -21,6 +21,7 @@ use Rattle.block_homes.specs.declared.homes.Assignment.{Assignment}
 use Rattle.block_homes.specs.Held.{places_of}
 use Rattle.block_homes.proofs.Lockstep.{At, moved_set}
 use Rattle.rv_assemble.specs.declared.unit.AsmLine.{AsmLine}
+use Rattle.rv_machine.specs.declared.event.Event.{Event}
 use Rattle.rv_machine.specs.declared.event.Mode.{Mode}
 use Rattle.rv_machine.specs.declared.event.Mode.TheVariants as mode
 use Rattle.rv_machine.specs.Exec.{Run, turn, exec}
@@ -31,12 +32,17 @@ use Rattle.emitted_code.specs.Code.{rest_code, limit_code}
 use Rattle.emitted_code.specs.Room.{IsProc, CanEmit}
 use Rattle.emitted_code.proofs.Data.{Data, Small}
 use Rattle.emitted_code.proofs.Laws.{Laws, Went}
-use Rattle.emitted_code.proofs.Steps.{shown, quietly}
+use Rattle.emitted_code.proofs.Steps.{shown, quietly, stepped, ends_so}
 use Rattle.emitted_code.proofs.Relate.{cells, Laid, at_alike, total, lay, Level, Body}
 use Rattle.emitted_code.proofs.Values.{Wrote, cells_written, body_written, set_low}
 
--- the run has taken and given what the world says
+abbrev pub AllBytes : List ℕ → Type 0
+AllBytes [] = Unit {0}
+AllBytes (b ∷ bs) = (b < 256) × AllBytes bs
+
+-- the run has taken and given what the world says, and bytes are left
 pub record Told (r : Run) (w : World) : Type 0 where
+  pub bytes : AllBytes w.unread
   pub left : r.left ≡ w.unread
   pub taken : r.taken ≡ w.taken
   pub output : r.output ≡ w.output
@@ -45,6 +51,7 @@ pub told_after : (n : ℕ) (r r' : Run) (w : World) → Leads n r r' → Told r 
 told_after n r r' w l t =
     let k = l.quiet n (omega arith) in
     record {
+      bytes = t.bytes;
       left = ap (λ (x : Run). x.left) (sym l.ends) ∙ (k.left ∙ t.left);
       taken = ap (λ (x : Run). x.taken) (sym l.ends) ∙ (k.taken ∙ t.taken);
       output = ap (λ (x : Run). x.output) (sym l.ends) ∙ (k.output ∙ t.output);
@@ -81,6 +88,7 @@ module _ (q : BlockProgram) (hs : List Assignment) (g : Placement) (On : ℕ →
     pub blocks : (i : ℕ) (f : BlockProc) → IsProc q i f → (b : ℕ) (k : Block) → slice_get f.blocks b ≡ Some k → BlockAt i b (lay q hs g can.room Addr i f) k
     pub limit : (i : ℕ) (f : BlockProc) → IsProc q i f → is_charged f ≡ true → LimitAt i (length f.blocks)
     pub alone : (i : ℕ) (f : BlockProc) → IsProc q i f → i ≡ q.entry → is_charged f ≡ false → 2 ^ 64 ≤ g.procs i
+    pub near : (i : ℕ) (f : BlockProc) → IsProc q i f → (is_charged f ≡ true) ⊎ ¬ (i ≡ q.entry) → g.procs i < 2 ^ 64
     pub K : ℕ
     pub dear : 400 ≤ K
     pub cost : (i : ℕ) (f : BlockProc) → IsProc q i f → 40 * f.params + 400 ≤ K
@@ -141,6 +149,26 @@ module _ (q : BlockProgram) (hs : List Assignment) (g : Placement) (On : ℕ →
         same zero = e0
         same (suc m) = e m
 
+    -- the same, where something is seen of one instruction
+    pub proceeds_seen : (n : ℕ) → Again n → (a : Behaviour) (w0 : World) (r : Run) → Told r w0 → r.state.mode ≡ mode.Ready → (f : BlockProc) (rest : List BlockInsn) (end : BlockEnd) (env : List ℕ) (w : World) (stack : List B.Waiting) (k1 k2 : ℕ) (r1 r2 r3 : Run)
+        → Leads k1 r r1 → turn r1 ≡ r2 → Leads k2 r2 r3 → k1 + k2 + 1 ≤ x.K → Related f rest end env w stack r3 → a 0 ≡ F.seen w0 Running → ((m : ℕ) → a (suc m) ≡ going f rest end env w stack m) → Now (suc n) a r
+    proceeds_seen n again a w0 r told ready f rest end env w stack k1 k2 r1 r2 r3 l1 t l2 high rel e0 e =
+        alike_first x.K some 0 (suc n) a (unit (F.seen w0 Running) (going f rest end env w stack)) (shown r) same
+            (stepped x.K some n k1 k2 (F.seen w0 Running) (going f rest end env w stack) r r1 r2 r3 l1 t l2 high (seen_now r w0 ready told) (again f rest end env w stack r3 rel))
+      where
+        same : (i : ℕ) → a i ≡ unit (F.seen w0 Running) (going f rest end env w stack) i
+        same zero = e0
+        same (suc m) = e m
+
+    -- the step ends the run
+    pub ends_now : (n : ℕ) (a : Behaviour) (w0 : World) (end : Ending) (r : Run) → Told r w0 → r.state.mode ≡ mode.Ready → (k : ℕ) (r1 r2 : Run) (ev : Event) → Leads k r r1 → turn r1 ≡ r2 → r2.state.mode ≡ mode.Ended ev → seen r2 ≡ F.seen w0 end → k + 1 ≤ x.K → a 0 ≡ F.seen w0 Running → ((m : ℕ) → a (suc m) ≡ F.seen w0 end) → Now n a r
+    ends_now n a w0 end r told ready k r1 r2 ev l t over is le e0 e =
+        alike_first x.K some 0 n a (ended (F.seen w0 Running) (F.seen w0 end)) (shown r) same (ends_so x.K some n k (F.seen w0 Running) (F.seen w0 end) r r1 r2 ev l t over is le (seen_now r w0 ready told))
+      where
+        same : (i : ℕ) → a i ≡ ended (F.seen w0 Running) (F.seen w0 end) i
+        same zero = e0
+        same (suc m) = e m
+
     -- the step is wrong
     pub goes_wrong : (n : ℕ) (a : Behaviour) (w0 : World) (r : Run) → Told r w0 → r.state.mode ≡ mode.Ready → a 0 ≡ F.seen w0 Running → ((m : ℕ) → a (suc m) ≡ F.seen w0 Wrong) → Now n a r
     goes_wrong n a w0 r told ready e0 e =
@@ -150,22 +178,28 @@ module _ (q : BlockProgram) (hs : List Assignment) (g : Placement) (On : ℕ →
         same zero = e0
         same (suc m) = e m
 
+    -- one value is set at its home
+    pub set_next : (f : BlockProc) (y : BlockInsn) (rest : List BlockInsn) (end : BlockEnd) (env : List ℕ) (w : World) (stack : List B.Waiting) (i : ℕ) → IsProc q i f → (d d' : Data) (tail : List AsmLine) (r' : Run) → On i (rest_code (L i f) rest end tail) d' r' → Told r' w → w.frames ≡ f.frame + total stack → Level_of i f stack
+        → Cells_at i f (y ∷ rest) end env d → Body_of i f w stack d → (v val : ℕ) → sets y ≡ v ∷ [] → val < 2 ^ 64 → Wrote (L i f) (home_of (L i f) v) val d d' → Related f rest end (slice_set env v val) w stack r'
+    set_next f y rest end env w stack i ip d d' tail r' on told frames level at body v val es lt wr =
+        let l = L i f in
+        let is = x.laid i f ip in
+        let lv = subst (λ vs. AllBelow f.values vs) es (set_low f (places_of l.homes) y rest end env (cells l d) at) in
+        record {
+          number = i;
+          is = ip;
+          data' = d';
+          tail = tail;
+          on = on;
+          told = told;
+          frames = frames;
+          level = level;
+          at = at_alike f (places_of l.homes) rest end (slice_set env v val) _ (cells l d') (cells_written f l v val d d' is lv.0 lt wr) (moved_set f (places_of l.homes) y rest end env (cells l d) v val es at);
+          body = body_written q hs g x.can.room Addr x.bounded f l w stack d d' v val is lv.0 wr body;
+        }
+
     -- an instruction has set one value
     pub has_set : (f : BlockProc) (y : BlockInsn) (rest : List BlockInsn) (end : BlockEnd) (env : List ℕ) (w : World) (stack : List B.Waiting) (r : Run) (rel : Related f (y ∷ rest) end env w stack r) (v val k : ℕ) (d' : Data)
         → (went : Goes k rel.number (rest_code (L rel.number f) rest end rel.tail) d' r) → sets y ≡ v ∷ [] → val < 2 ^ 64 → Wrote (L rel.number f) (home_of (L rel.number f) v) val rel.data' d' → Related f rest end (slice_set env v val) w stack went.run
     has_set f y rest end env w stack r rel v val k d' went es lt wr =
-        let l = L rel.number f in
-        let is = x.laid rel.number f rel.is in
-        let lv = subst (λ vs. AllBelow f.values vs) es (set_low f (places_of l.homes) y rest end env (cells l rel.data') rel.at) in
-        record {
-          number = rel.number;
-          is = rel.is;
-          data' = d';
-          tail = rel.tail;
-          on = went.on;
-          told = told_after k r went.run w went.leads rel.told;
-          frames = rel.frames;
-          level = rel.level;
-          at = at_alike f (places_of l.homes) rest end (slice_set env v val) _ (cells l d') (cells_written f l v val rel.data' d' is lv.0 lt wr) (moved_set f (places_of l.homes) y rest end env (cells l rel.data') v val es rel.at);
-          body = body_written q hs g x.can.room Addr x.bounded f l w stack rel.data' d' v val is lv.0 wr rel.body;
-        }
+        set_next f y rest end env w stack rel.number rel.is rel.data' d' rel.tail went.run went.on (told_after k r went.run w went.leads rel.told) rel.frames rel.level rel.at rel.body v val es lt wr

@@ -62,13 +62,14 @@ pub record HasRoom (q : BlockProgram) : Type 0 where
   pub bound : most ≤ 8192
   pub alone : (e : BlockProc) → IsProc q q.entry e → is_charged e ≡ false → StandsAlone q most e
 
--- a number is one of 64 bits, an address of the image is one of its bytes or the place behind them, and a call has at most two results
-abbrev pub InsnFits : ℕ → BlockInsn → Type 0
-InsnFits bytes (I.Number x n) = n < 2 ^ 64
-InsnFits bytes (I.ImageAddress x n) = n ≤ bytes
-InsnFits bytes (I.Call xs p ys) = length xs ≤ 2
-InsnFits bytes (I.CallAt xs y ys) = length xs ≤ 2
-InsnFits bytes _ = Unit {0}
+-- a number is one of 64 bits, a procedure is there, an address of the image is one of its bytes or the place behind them, and a call has at most two results
+abbrev pub InsnFits : (procs bytes : ℕ) → BlockInsn → Type 0
+InsnFits procs bytes (I.Number x n) = n < 2 ^ 64
+InsnFits procs bytes (I.ProcAddress x p) = p < procs
+InsnFits procs bytes (I.ImageAddress x n) = n ≤ bytes
+InsnFits procs bytes (I.Call xs p ys) = (p < procs) × (length xs ≤ 2)
+InsnFits procs bytes (I.CallAt xs y ys) = length xs ≤ 2
+InsnFits procs bytes _ = Unit {0}
 
 abbrev pub EndFits : BlockEnd → Type 0
 EndFits (E.Return ys) = length ys ≤ 2
@@ -79,5 +80,5 @@ pub record CanEmit (q : BlockProgram) (assignments : List Assignment) : Type 0 w
   pub valid : AllValid q.procs assignments
   pub homes : (p : ℕ) (f : BlockProc) → IsProc q p f → AreHomes f.values (homes_in (slice_get assignments p))
   pub room : HasRoom q
-  pub insns : (p : ℕ) (f : BlockProc) → IsProc q p f → (i : BlockInsn) → HasInsn f i → InsnFits (length q.image) i
+  pub insns : (p : ℕ) (f : BlockProc) → IsProc q p f → (i : BlockInsn) → HasInsn f i → InsnFits (length q.procs) (length q.image) i
   pub ends : (p : ℕ) (f : BlockProc) → IsProc q p f → (e : BlockEnd) → HasEnd f e → EndFits e
