@@ -11,3 +11,5 @@ pub mod States
 pub mod Access
 pub mod Simple
 pub mod Ends
+pub mod Saves
+pub mod Returns
