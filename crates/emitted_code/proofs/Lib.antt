@@ -13,3 +13,4 @@ pub mod Simple
 pub mod Ends
 pub mod Saves
 pub mod Returns
+pub mod Args
