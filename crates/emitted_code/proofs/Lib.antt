@@ -14,3 +14,4 @@ pub mod Ends
 pub mod Saves
 pub mod Returns
 pub mod Args
+pub mod Calls
