@@ -256,3 +256,191 @@ module _ (q : BlockProgram) (hs : List Assignment) (g : Placement) (On : ℕ →
                 at = at_alike f (places_of l.homes) b.insns b.end (vs ++ replicate (f.values - f.params) 0) (passed (places_of l.homes) vs (cells l dS) f.params) (cells l dR) (λ u lu. got.0.held u lu) at0;
                 body = got.0.body;
               }) e0 (λ m. e m ∙ ap (λ o. B.at_block o (go_on m) f (vs ++ replicate (f.values - f.params) 0) w st) here)
+
+  -- room is made: x6 has the size
+  lowers : (l : Layout) (d e : Data) → l.size ≤ d.regs 2 → d.regs 2 < 2 ^ 63 → e.regs 2 ≡ d.regs 2 → e.regs 6 ≡ l.size → e.mem ≡ d.mem → ((r : ℕ) → ¬ (r ≡ 5) → ¬ (r ≡ 6) → ¬ (r ≡ 7) → e.regs r ≡ d.regs r) → Small e.regs
+      → ((act (Operate O.Sub 2 2 6) e).regs 2 ≡ d.regs 2 - l.size) × ((act (Operate O.Sub 2 2 6) e).mem ≡ d.mem) × ((r : ℕ) → ¬ (r ≡ 2) → ¬ (r ≡ 5) → ¬ (r ≡ 6) → ¬ (r ≡ 7) → (act (Operate O.Sub 2 2 6) e).regs r ≡ d.regs r) × Small (act (Operate O.Sub 2 2 6) e).regs
+  lowers l d e le low e2 e6 em er sm =
+      let v = (e.regs 2 + (2 ^ 64 - e.regs 6)) % 2 ^ 64 in
+      let ev : v ≡ d.regs 2 - l.size = omega arith in
+      (poke_same e.regs 2 v 2 refl ∙ ev, em, (λ r n2 n5 n6 n7. poke_apart e.regs 2 v r n2 ∙ er r n5 n6 n7), poke_small e.regs 2 v sm (omega arith))
+
+  -- a procedure is entered, after k instructions
+  pub entered : (n : ℕ) → Again q hs g On Addr Labelled x n → (a : Behaviour) (p : ℕ) (f : BlockProc) (ip : IsProc q p f) (vs : List ℕ) (w : World) (st : List B.Waiting) (r rB : Run) (d : Data) (k : ℕ) → Told r w → r.state.mode ≡ mode.Ready → Leads k r rB
+      → On p (proc_lines (Ly p f) f) d rB → Found vs w st d → Enters p f w st → k ≤ 20 * length vs + 12 → a 0 ≡ F.seen w Running → ((m : ℕ) → a (suc m) ≡ B.enter (Some f) (at_places q hs g On Addr Labelled x) (go_on m) vs w st) → N' (suc n) a r
+  entered n again a p f ip vs w st r rB d k told ready lead on t en short e0 e = counted (length vs == f.params) refl
+    where
+      l : Layout
+      l = Ly p f
+
+      w' : World
+      w' = with_frames w (w.frames + f.frame)
+
+      env : List ℕ
+      env = vs ++ replicate (f.values - f.params) 0
+
+      nb : ℕ
+      nb = length f.blocks
+
+      inner : Bool → List AsmLine
+      inner b = lines (save l (saved_of l) ++ receive l f.params) (blocks_code l 0 f.blocks (past_code b nb))
+
+      all : d.regs 2 + sizes st ≡ top q hs g x.can.room Addr
+      all = depth q hs g x.can.room Addr st d.mem d.regs t.rest
+
+      fm : first ≤ 8192
+      fm = let h = first_most q x.can.room in omega arith
+
+      more : (m : ℕ) (o : Bool) → (length vs == f.params) ≡ o → a (suc m) ≡ B.if_value (if o then Some env else None) (F.seen w Wrong) (λ env. B.if_value (charged limit f.frame w) (F.seen w (R.Limited R.Frames)) (λ w'. B.at_block (slice_get f.blocks 0) (go_on m) f env w' st))
+      more m o eo = e m ∙ ap (λ o. B.if_value (if o then Some env else None) (F.seen w Wrong) (λ env. B.if_value (charged limit f.frame w) (F.seen w (R.Limited R.Frames)) (λ w'. B.at_block (slice_get f.blocks 0) (go_on m) f env w' st))) eo
+
+      charging : (m : ℕ) → (length vs == f.params) ≡ true → (c : Bool) → nat_le (w.frames + f.frame) limit ≡ c → a (suc m) ≡ B.if_value (cond c (Some w') None) (F.seen w (R.Limited R.Frames)) (λ w'. B.at_block (slice_get f.blocks 0) (go_on m) f env w' st)
+      charging m el c ec = more m true el ∙ ap (λ c. B.if_value (cond c (Some w') None) (F.seen w (R.Limited R.Frames)) (λ w'. B.at_block (slice_get f.blocks 0) (go_on m) f env w' st)) ec
+
+      -- with the size in x6
+      load : List Straight
+      load = load_number 6 l.size
+
+      with_size : l.size < 2 ^ 64 → Gets lo hi 6 l.size d load
+      with_size lt = gets_number lo hi 6 l.size d (omega arith, omega arith) lt t.zero
+
+      low2 : d.regs 2 < 2 ^ 63 + 1
+      low2 = let b = x.bounded in let c = all in omega arith
+
+      charged_case : is_charged f ≡ true → (length vs == f.params) ≡ true → length vs ≡ f.params → (c : Bool) → nat_le (w.frames + f.frame) limit ≡ c → N' (suc n) a r
+      charged_case ech el lv = trying
+        where
+          size : l.size ≡ f.frame
+          size = size_charged f ech
+
+          lt : l.size < 2 ^ 64
+          lt = let h = (x.can.room.charged p f ip ech).2 in omega (arith, size)
+
+          g6 : Gets lo hi 6 l.size d load
+          g6 = with_size lt
+
+          d6 : Data
+          d6 = acts load d
+
+          ys : List Straight
+          ys = load ++ (Operate O.Sub 5 2 3 ∷ [])
+
+          v : ℕ
+          v = (d6.regs 2 + (2 ^ 64 - d6.regs 3)) % 2 ^ 64
+
+          dA : Data
+          dA = set d6 5 v
+
+          on1 : On p (enter_code true l nb (inner true)) d rB
+          on1 = subst (λ b. On p (enter_code b l nb (inner b)) d rB) ech on
+
+          behind : List AsmLine
+          behind = Branch (M.Bltu 5 6 0) nb ∷ lines (Operate O.Sub 2 2 6 ∷ []) (inner true)
+
+          t1 : Went q hs g On Addr Labelled (length ys) p behind dA rB
+          t1 = subst (λ z. Went q hs g On Addr Labelled (length ys) p behind z rB) (acts_append load (Operate O.Sub 5 2 3 ∷ []) d) (goes q hs g On Addr Labelled x.laws p ys behind d rB on1 (safe_append lo hi load (Operate O.Sub 5 2 3 ∷ []) d g6.safe (((omega arith, omega arith), omega arith, omega arith), tt)))
+
+          lead1 : Leads (k + length ys) r t1.run
+          lead1 = leads_then k (length ys) r rB t1.run lead t1.leads
+
+          long : length ys ≤ 9
+          long = omega (arith, length-append load (Operate O.Sub 5 2 3 ∷ []), (number_few 6 l.size).1)
+
+          five_is : dA.regs 5 ≡ limit - total st
+          five_is =
+              let e2 = g6.others 2 (λ z. omega arith) (λ z. omega arith) in
+              let e3 = g6.others 3 (λ z. omega arith) (λ z. omega arith) ∙ t.base in
+              let es = en.charged ech in
+              let wi = en.within in
+              let a' = all in
+              let f' = fm in
+              let big = x.bounded in
+              let ev : v ≡ limit - total st = omega arith in
+              poke_same d6.regs 5 v 5 refl ∙ ev
+
+          six_is : dA.regs 6 ≡ l.size
+          six_is = poke_apart d6.regs 5 v 6 (λ z. omega arith) ∙ g6.value
+
+          others : (r : ℕ) → ¬ (r ≡ 5) → ¬ (r ≡ 6) → ¬ (r ≡ 7) → dA.regs r ≡ d.regs r
+          others r n5 n6 n7 = poke_apart d6.regs 5 v r n5 ∙ g6.others r n6 n7
+
+          smallA : Small dA.regs
+          smallA = poke_small d6.regs 5 v (g6.small t.small) (omega arith)
+
+          trying : (c : Bool) → nat_le (w.frames + f.frame) limit ≡ c → N' (suc n) a r
+          trying false ec =
+              let over : limit < w.frames + f.frame = grind (arith, nat_tests) in
+              let fr = en.frames in
+              let wi = en.within in
+              let e5 = five_is in
+              let e6 = six_is in
+              let es = size in
+              let lim = x.limit p f ip ech in
+              let j = x.laws.less p nb (lines (Operate O.Sub 2 2 6 ∷ []) (inner true)) (limit_code 0 lim.tail) dA t1.run t1.on (omega arith) lim.stands in
+              let dj = set dA 6 j.junk in
+              let lead2 = leads_then (k + length ys) j.count r t1.run j.went.run lead1 j.went.leads in
+              let cost = x.cost p f ip in
+              let jf = j.few in
+              let lg = long in
+              let z0 : dj.regs 0 ≡ 0 = poke_apart dA.regs 6 j.junk 0 (λ z. omega arith) ∙ (others 0 (λ z. omega arith) (λ z. omega arith) (λ z. omega arith) ∙ t.zero) in
+              ends_limited q hs g On Addr Labelled x (suc n) a w r j.went.run p X.Frames lim.tail dj (k + length ys + j.count) told ready lead2 j.went.on z0 (λ i ni. subst (λ z. z < 2 ^ 64) (sym (poke_apart dA.regs 6 j.junk i ni)) (smallA i ni)) (omega (arith, lv)) e0 (λ m. charging m el false ec)
+          trying true ec =
+              let fits : w.frames + f.frame ≤ limit = grind (arith, nat_tests) in
+              let fr = en.frames in
+              let e5 = five_is in
+              let e6 = six_is in
+              let es = size in
+              let ss = en.charged ech in
+              let a' = all in
+              let f' = fm in
+              let l2 = low2 in
+              let t2 = x.laws.not_less p nb (lines (Operate O.Sub 2 2 6 ∷ []) (inner true)) dA t1.run t1.on (omega arith) in
+              let t3 = goes q hs g On Addr Labelled x.laws p (Operate O.Sub 2 2 6 ∷ []) (inner true) dA t2.run t2.on (((omega arith, omega arith), omega arith, omega arith), tt) in
+              let lead2 = leads_then (k + length ys) 1 r t1.run t2.run lead1 t2.leads in
+              let lead3 = leads_then (k + length ys + 1) 1 r t2.run t3.run lead2 t3.leads in
+              let low = lowers l d dA (omega arith) (omega arith) (others 2 (λ z. omega arith) (λ z. omega arith) (λ z. omega arith)) e6 g6.mem others smallA in
+              let lg = long in
+              let level : Level_of q hs g On Addr Labelled x p f st = record {
+                plain = λ h. omega arith;
+                routine = λ h. absurd (not_plain ech h);
+                within = omega arith;
+              } in
+              begins n again a p f ip vs w' w st r t3.run d (act (Operate O.Sub 2 2 6) dA) (k + length ys + 1 + 1) (past_code true nb) told ready lead3 t3.on t refl refl refl refl (omega arith) level (omega arith) lv low.0 low.1 low.2 low.3 (omega arith) (omega (arith, lv)) e0 (λ m. charging m el true ec)
+            where
+              not_plain : is_charged f ≡ true → (is_charged f || nat_eq p q.entry) ≡ false → ⊥
+              not_plain h z = (let u = ap (λ b. b || nat_eq p q.entry) h in absurd (cc))
+
+      free_case : is_charged f ≡ false → (length vs == f.params) ≡ true → length vs ≡ f.params → (c : Bool) → nat_le (w.frames + f.frame) limit ≡ c → N' (suc n) a r
+      free_case ech el lv false ec =
+          let over : limit < w.frames + f.frame = grind (arith, nat_tests) in
+          let z = (size_low f ech).1 in
+          let fr = en.frames in
+          let wi = en.within in
+          absurd (omega arith)
+      free_case ech el lv true ec =
+          let z = (size_low f ech).1 in
+          let fr = en.frames in
+          let un = en.uncharged ech in
+          let un1 = un.1 in
+          let a' = all in
+          let big = x.bounded in
+          let l2 = low2 in
+          let g6 = with_size (omega arith) in
+          let d6 = acts load d in
+          let ys = load ++ (Operate O.Sub 2 2 6 ∷ []) in
+          let on1 = subst (λ b. On p (enter_code b l nb (inner b)) d rB) ech on in
+          let low = lowers l d d6 (omega arith) (omega arith) (g6.others 2 (λ z. omega arith) (λ z. omega arith)) g6.value g6.mem (λ r n5 n6 n7. g6.others r n6 n7) (g6.small t.small) in
+          let dL = act (Operate O.Sub 2 2 6) d6 in
+          let t1 = subst (λ z. Went q hs g On Addr Labelled (length ys) p (inner false) z rB) (acts_append load (Operate O.Sub 2 2 6 ∷ []) d) (goes q hs g On Addr Labelled x.laws p ys (inner false) d rB on1 (safe_append lo hi load (Operate O.Sub 2 2 6 ∷ []) d g6.safe (((omega arith, omega arith), omega arith, omega arith), tt))) in
+          let lead1 = leads_then k (length ys) r rB t1.run lead t1.leads in
+          let la = length-append load (Operate O.Sub 2 2 6 ∷ []) in
+          let nf = number_few 6 l.size in
+          begins n again a p f ip vs w' w st r t1.run d dL (k + length ys) (past_code false nb) told ready lead1 t1.on t refl refl refl refl (omega arith) un.0 un.1 lv low.0 low.1 low.2 low.3 (omega (arith, la)) (omega (arith, la, nf.1, lv)) e0 (λ m. charging m el true ec)
+
+      counted : (o : Bool) → (length vs == f.params) ≡ o → N' (suc n) a r
+      counted false eo = goes_wrong q hs g On Addr Labelled x (suc n) a w r told ready e0 (λ m. more m false eo)
+      counted true eo = let lv : length vs ≡ f.params = grind (arith, nat_tests) in either (is_charged f) refl lv
+        where
+          either : (b : Bool) → is_charged f ≡ b → length vs ≡ f.params → N' (suc n) a r
+          either true h lv = charged_case h eo lv (nat_le (w.frames + f.frame) limit) refl
+          either false h lv = free_case h eo lv (nat_le (w.frames + f.frame) limit) refl

@@ -56,7 +56,7 @@ pub record StandsAlone (q : BlockProgram) (most : ℕ) (e : BlockProc) : Type 0 
 pub record HasRoom (q : BlockProgram) : Type 0 where
   pub deep : ℕ → ℕ
   pub most : ℕ
-  pub charged : (p : ℕ) (f : BlockProc) → IsProc q p f → is_charged f ≡ true → (f.frame % 16 ≡ 0) × (need f ≤ f.frame)
+  pub charged : (p : ℕ) (f : BlockProc) → IsProc q p f → is_charged f ≡ true → (f.frame % 16 ≡ 0) × (need f ≤ f.frame) × (f.frame < 2 ^ 64)
   pub routines : (p : ℕ) (f : BlockProc) → IsRoutine q p f → need f + deep p ≤ most
   pub calls : (p : ℕ) (f : BlockProc) → IsRoutine q p f → (i : BlockInsn) → HasInsn f i → CallsRoutines q deep (deep p) i
   pub bound : most ≤ 8192
