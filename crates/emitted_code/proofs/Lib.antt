@@ -1,0 +1,17 @@
+pub mod Data
+pub mod Constants
+pub mod FrameWords
+pub mod Relate
+pub mod Laws
+pub mod Steps
+pub mod Values
+pub mod Small
+pub mod Operands
+pub mod States
+pub mod Access
+pub mod Simple
+pub mod Ends
+pub mod Saves
+pub mod Returns
+pub mod Args
+pub mod Calls

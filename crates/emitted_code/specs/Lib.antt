@@ -1,0 +1,6 @@
+pub mod Straight
+pub mod Names
+pub mod Frames
+pub mod Code
+pub mod Room
+pub mod Units
