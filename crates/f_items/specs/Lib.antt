@@ -1,0 +1,6 @@
+pub mod Places
+pub mod Declarations
+pub mod Accessible
+pub mod Rules
+pub mod Order
+pub mod Scoped
