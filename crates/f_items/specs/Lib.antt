@@ -4,3 +4,4 @@ pub mod Accessible
 pub mod Rules
 pub mod Order
 pub mod Scoped
+pub mod Laws

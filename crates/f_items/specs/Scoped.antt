@@ -1,6 +1,5 @@
 -- The first broken rule on names, and that no rule is broken.
 use Rattle.std.specs.Prelude.{◌≡◌, ℕ, ◌<◌, ◌≤◌, List, [], ◌∷◌, ◌++◌}
-use Rattle.std.specs.List.{Contains}
 use Rattle.f_items.specs.declared.item.Declared.{Declared}
 use Rattle.f_items.specs.declared.item.Item.TheVariants.{Declares}
 use Rattle.f_items.specs.declared.item.Class.TheVariants as class
@@ -47,7 +46,8 @@ pub record BreaksIn (p : List Located) (u k : ℕ) : Type 0 where
 
 -- nothing is broken in these units
 abbrev pub AreKept : List Located → List ℕ → Type 0
-AreKept p us = (u : ℕ) → Contains us u → (k : ℕ) → BreaksIn p u k → ⊥
+AreKept p [] = Unit {0}
+AreKept p (u ∷ us) = ((k : ℕ) → BreaksIn p u k → ⊥) × AreKept p us
 
 -- the first broken rule: the item at place k breaks it
 pub data BreaksFirst (p : List Located) : ℕ → ℕ → Type 0 where
