@@ -1,0 +1,7 @@
+pub mod Places
+pub mod Declarations
+pub mod Accessible
+pub mod Rules
+pub mod Order
+pub mod Scoped
+pub mod Laws
