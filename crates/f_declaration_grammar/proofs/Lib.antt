@@ -1,0 +1,4 @@
+pub mod ListingLaws
+pub mod DeclaredSound
+pub mod DeclaredGrows
+pub mod PartsAgain
