@@ -1,15 +1,15 @@
 -- How many tokens trees have, and that their parentheses are closed in them.
-use Rattle.std.proofs.Common.{◌≡◌, ℕ, zero, suc, ◌+◌, ◌≤◌, ◌<◌, Bool, true, false, List, [], ◌∷◌, length, Option, Some, None, refl, ap, ◌∙◌, arith}
+use Rattle.std.proofs.Common.{◌≡◌, ℕ, zero, suc, ◌+◌, ◌≤◌, Bool, true, false, List, [], ◌∷◌, length, Option, Some, None, refl, ◌∙◌, arith}
 use Rattle.std.specs.Prelude.{codes}
 use Rattle.f_lex.specs.declared.token.Mark.TheVariants as mark
 use Rattle.f_lex.specs.declared.token.Token.{Token}
 use Rattle.f_lex.specs.declared.token.Token.TheVariants as token
-use Rattle.f_grammar.specs.Grammar.{Expr, Maybe, Absent, Present, TypeOf, Integer, Logical, Character, Derived, Assumed, Selector, NoKind, kind, Params, NoParams, params, More, no_more, more, Param, Length, AnyLength, KindParam, put, spell_word, spell, spell_maybe, spell_type, spell_kind, spell_params, spell_mores, spell_param, Fits, FitsMaybe, FitsType, FitsKind, FitsMores, FitsParam, Within}
+use Rattle.f_grammar.specs.Grammar.{Expr, Maybe, Absent, Present, TypeOf, Integer, Logical, Character, Derived, Assumed, Selector, NoKind, kind, Params, NoParams, params, More, no_more, more, Param, Length, AnyLength, KindParam, put, spell_word, spell, spell_maybe, spell_type, spell_kind, spell_params, spell_mores, spell_param, FitsMaybe, FitsType, FitsMores, FitsParam, Within}
 use Rattle.f_grammar.specs.Reading.{closing, behind_group}
 use Rattle.f_grammar.proofs.Begins.{grows, grows_mores}
 use Rattle.f_grammar.proofs.Closed.{closed_expr}
 use Rattle.f_declaration_grammar.specs.Listing.{spell_behind, spell_listed, spell_each, AreAll, AreSome}
-use Rattle.f_declaration_grammar.specs.Declarations.{Dim, Upper, Bounds, Deferred, AssumedSize, AssumedRank, Access, Public, Private, Intent, In, Out, InOut, InOutTwoWords, Label, Attr, Parameter, Dimension, Allocatable, Pointer, Target, Optional, Value, Contiguous, Save, Accessible, Bind, For, Initial, NoInitial, Starts, Null, Entity, entity, Rename, renamed, Only, Plain, Renamed, TypeAttr, TypeBind, TypeAccess, PointerAttr, PointerSave, PointerAccess, ProcPointer, pointer, Prefix, Recursive, Returns, Suffix, BindSuffix, Result, spell_name, spell_lower, spell_dim, spell_dims, spell_maybe_dims, spell_intent, spell_bind, spell_attr, spell_initial, spell_entity, spell_rename, spell_only, spell_type_attr, spell_pointer_attr, spell_is_null, spell_pointer, spell_prefix, spell_suffix, FitsDim}
+use Rattle.f_declaration_grammar.specs.Declarations.{Dim, Upper, Bounds, Deferred, AssumedSize, AssumedRank, Intent, In, Out, InOut, InOutTwoWords, Label, Attr, Parameter, Dimension, Allocatable, Pointer, Target, Optional, Value, Contiguous, Save, Accessible, Bind, For, Initial, NoInitial, Starts, Null, Entity, entity, Rename, renamed, Only, Plain, Renamed, TypeAttr, TypeBind, TypeAccess, PointerAttr, PointerSave, PointerAccess, ProcPointer, pointer, Prefix, Recursive, Returns, Suffix, BindSuffix, Result, spell_name, spell_lower, spell_dim, spell_dims, spell_maybe_dims, spell_intent, spell_bind, spell_attr, spell_initial, spell_entity, spell_rename, spell_only, spell_type_attr, spell_pointer_attr, spell_pointer, spell_prefix, spell_suffix, FitsDim}
 
 -- ---- lengths
 

@@ -3,17 +3,16 @@ use Rattle.std.proofs.Common.{◌≡◌, ℕ, zero, suc, Bool, true, false, List
 use Rattle.std.specs.Prelude.{codes}
 use Rattle.std.specs.Str.{bytes_eq}
 use Rattle.std.proofs.lemmas.Slice.Eq.{bytes_eq-Decides}
-use Rattle.f_lex.specs.declared.token.Kind.{Kind}
 use Rattle.f_lex.specs.declared.token.Mark.TheVariants as mark
 use Rattle.f_lex.specs.declared.token.Token.{Token}
 use Rattle.f_lex.specs.declared.token.Token.TheVariants as token
-use Rattle.f_grammar.specs.Grammar.{Expr, TypeOf, put, spell, spell_type, FitsType, Within}
+use Rattle.f_grammar.specs.Grammar.{TypeOf, put, spell, spell_type, FitsType}
 use Rattle.f_grammar.specs.Reading.{IfSome, Read, open_at, closed_at, comma_at, colon_at, colons_at, star_at, name_at, word_at, ends_bound, expr_at, type_at}
 use Rattle.f_grammar.specs.ActionReading.{assign_at, arrow_at}
 use Rattle.f_grammar.proofs.Sound.{then, chosen, tested, open_sound, closed_sound, comma_sound, colon_sound, colons_sound, star_sound, IsName, name_sound, IsWord, word_sound, IsInside, present_fits, expr_sound, type_sound}
 use Rattle.f_grammar.proofs.ActionSound.{arrow_sound}
 use Rattle.f_declaration_grammar.specs.Listing.{spell_behind, spell_listed, spell_each, AreAll, AreSome, behind_at, listed_at}
-use Rattle.f_declaration_grammar.specs.Declarations.{Dim, Upper, Bounds, Deferred, AssumedSize, Access, Public, Private, Intent, Label, Attr, Parameter, Dimension, Allocatable, Pointer, Target, Optional, Value, Contiguous, Save, Accessible, Initial, Entity, Rename, Only, UseList, All, Renames, Onlys, TypeAttr, TypeAccess, PointerAttr, PointerSave, PointerAccess, ProcPointer, Prefix, Returns, Suffix, Ended, OfProgram, OfModule, OfSubroutine, OfFunction, OfType, OfInterface, Declared, Program, Module, Head, Contains, Use, Import, ImplicitNone, Variables, TypeStart, InterfaceStart, Accesses, SaveAll, Procedures, End, EndOf, front, spell_name, spell_dim, spell_dims, spell_maybe_dims, access_word, spell_intent, spell_bind, spell_attr, spell_null, spell_initial, spell_entity, spell_rename, spell_only, spell_uses, spell_colons, spell_type_attr, spell_pointer_attr, spell_pointer, spell_prefix, spell_suffix, spell_dummies, unit_word, ended_word, joined_word, spell_maybe_name, spell_end, spell_declared, IsAny, FitsDim, FitsDims, FitsAttr, FitsInitial, FitsEntity, FitsUses, FitsPrefix, FitsDummies, FitsNames, FitsEnd, FitsDeclared}
+use Rattle.f_declaration_grammar.specs.Declarations.{Public, Private, Label, Attr, Parameter, Allocatable, Pointer, Target, Optional, Value, Contiguous, Save, Accessible, UseList, Renames, Onlys, TypeAttr, PointerAttr, Prefix, Returns, Suffix, Ended, OfProgram, OfModule, OfSubroutine, OfFunction, OfType, OfInterface, Declared, Program, Module, Contains, Use, Import, ImplicitNone, Variables, TypeStart, InterfaceStart, Accesses, SaveAll, Procedures, EndOf, front, spell_name, spell_dim, spell_maybe_dims, spell_intent, spell_bind, spell_attr, spell_null, spell_initial, spell_entity, spell_rename, spell_only, spell_uses, spell_colons, spell_type_attr, spell_pointer_attr, spell_pointer, spell_prefix, spell_suffix, spell_dummies, unit_word, spell_end, spell_declared, IsAny, FitsDim, FitsDims, FitsAttr, FitsInitial, FitsEntity, FitsUses, FitsPrefix, FitsDummies, FitsNames, FitsDeclared}
 use Rattle.f_declaration_grammar.specs.DeclarationReading.{ends, this_at, dots_at, text_at, maybe_colons_at, begins_head, dim_behind, dim_at, dims_at, maybe_dims_at, label_at, bind_at, in_at, intent_by, intent_at, dimension_at, bind_attr_at, intent_attr_at, attr_by, attr_at, null_at, initial_at, entity_at, rename_at, only_at, type_attr_by, type_attr_at, pointer_attr_by, pointer_attr_at, pointer_at, prefix_at, unit_word_at, suffix_by, suffix_at, suffixes_at, dummy_names_at, dummies_at, head_of, prefixes_at, head_behind, named_at, names_at, only_colon_at, onlys_at, renames_at, uses_at, module_at, use_at, implicit_at, abstract_at, variables_at, behind_type, typed_at, type_start_at, pointers_at, procedure_at, end_name_at, end_by, end_at, joined_by, type_word_at, declared_by, declared_at}
 use Rattle.f_declaration_grammar.proofs.ListingLaws.{Spelled, behind_sound, listed_sound}
 

@@ -1,5 +1,5 @@
 -- Lists of trees are read as they are spelled, and the other way round.
-use Rattle.std.proofs.Common.{◌≡◌, ℕ, zero, suc, ◌+◌, ◌≤◌, List, [], ◌∷◌, length, Option, Some, None, refl, ap, ◌∙◌, arith}
+use Rattle.std.proofs.Common.{◌≡◌, ℕ, zero, suc, ◌+◌, ◌≤◌, List, [], ◌∷◌, length, Some, None, refl, ap, ◌∙◌, arith}
 use Rattle.f_lex.specs.declared.token.Mark.TheVariants as mark
 use Rattle.f_lex.specs.declared.token.Token.{Token}
 use Rattle.f_grammar.specs.Grammar.{put}
@@ -44,7 +44,6 @@ module _ {A : Type 0} (one : List Token → Read A) (spell : A → List Token �
     (comma : (ts : List Token) → E (put mark.Comma ts))
     (grows : (x : A) (rest : List Token) → length rest ≤ length (spell x rest))
     (again : (x : A) (rest : List Token) → P x → E rest → one (spell x rest) ≡ Some (x, rest)) where
-
   behind_ends : (xs : List A) (rest : List Token) → E rest → E (spell_behind spell xs rest)
   behind_ends [] rest e = e
   behind_ends (x ∷ xs) rest e = comma (spell x (spell_behind spell xs rest))

@@ -1,18 +1,17 @@
 -- The parts of statements are read from their tokens.
-use Rattle.std.proofs.Common.{◌≡◌, ℕ, zero, suc, ◌+◌, ◌≤◌, Bool, true, false, List, [], ◌∷◌, length, Option, Some, None, refl, ap, ◌∙◌, arith}
+use Rattle.std.proofs.Common.{◌≡◌, ℕ, zero, suc, ◌+◌, ◌≤◌, Bool, true, false, List, [], ◌∷◌, length, Option, Some, None, refl, arith}
 use Rattle.std.specs.Prelude.{codes}
-use Rattle.std.specs.Str.{bytes_eq}
 use Rattle.f_lex.specs.declared.token.Mark.TheVariants as mark
 use Rattle.f_lex.specs.declared.token.Token.{Token}
 use Rattle.f_lex.specs.declared.token.Token.TheVariants as token
-use Rattle.f_grammar.specs.Grammar.{Expr, Maybe, Absent, Present, TypeOf, Integer, Logical, Character, Derived, Assumed, put, spell, spell_type, Stops, EndsType, Within}
-use Rattle.f_grammar.specs.Reading.{◌>>=◌, open_at, closed_at, comma_at, colon_at, colons_at, star_at, name_at, word_at, key_at, ends_bound, expr_at, type_at}
+use Rattle.f_grammar.specs.Grammar.{Expr, Absent, Present, TypeOf, Integer, Logical, Character, Derived, Assumed, put, spell, spell_type, Stops, EndsType}
+use Rattle.f_grammar.specs.Reading.{open_at, closed_at, comma_at, colon_at, colons_at, star_at, name_at, word_at, key_at, ends_bound, expr_at, type_at}
 use Rattle.f_grammar.specs.ActionReading.{assign_at, arrow_at}
 use Rattle.f_grammar.proofs.Begins.{Starts as Begins, starts_within, no_bound_end, no_star, EndsArg, ended}
 use Rattle.f_grammar.proofs.Steps.{same_word, maybe_within}
 use Rattle.f_grammar.proofs.Again.{expr_again, type_again}
-use Rattle.f_declaration_grammar.specs.Listing.{spell_behind, spell_listed, spell_each, AreAll, AreSome, behind_at, listed_at}
-use Rattle.f_declaration_grammar.specs.Declarations.{Dim, Upper, Bounds, Deferred, AssumedSize, AssumedRank, Access, Public, Private, Intent, In, Out, InOut, InOutTwoWords, Label, Attr, Parameter, Dimension, Allocatable, Pointer, Target, Optional, Value, Contiguous, Save, Accessible, Bind, For, Initial, NoInitial, Starts, Null, Entity, entity, Rename, renamed, Only, Plain, Renamed, TypeAttr, TypeBind, TypeAccess, PointerAttr, PointerSave, PointerAccess, ProcPointer, pointer, Prefix, Recursive, Returns, Suffix, BindSuffix, Result, front, spell_name, spell_dim, spell_dims, spell_maybe_dims, spell_intent, spell_bind, spell_attr, spell_initial, spell_entity, spell_rename, spell_only, spell_colons, spell_type_attr, spell_pointer_attr, spell_pointer, spell_prefix, spell_suffix, spell_dummies, unit_word, IsAny, FitsDim, FitsDims, FitsAttr, FitsInitial, FitsEntity, FitsPrefix, FitsDummies}
+use Rattle.f_declaration_grammar.specs.Listing.{spell_behind, spell_listed, spell_each, AreAll, AreSome, listed_at}
+use Rattle.f_declaration_grammar.specs.Declarations.{Dim, Upper, Bounds, Deferred, AssumedSize, AssumedRank, Public, Private, Intent, In, Out, InOut, InOutTwoWords, Label, Attr, Parameter, Dimension, Allocatable, Pointer, Target, Optional, Value, Contiguous, Save, Accessible, Bind, For, Initial, NoInitial, Starts, Null, Entity, entity, Rename, renamed, Only, Plain, Renamed, TypeAttr, TypeBind, TypeAccess, PointerAttr, PointerSave, PointerAccess, ProcPointer, pointer, Prefix, Recursive, Returns, Suffix, BindSuffix, Result, front, spell_name, spell_dim, spell_maybe_dims, spell_intent, spell_bind, spell_attr, spell_initial, spell_entity, spell_rename, spell_only, spell_colons, spell_type_attr, spell_pointer_attr, spell_pointer, spell_prefix, spell_suffix, spell_dummies, unit_word, IsAny, FitsDim, FitsDims, FitsAttr, FitsInitial, FitsEntity, FitsPrefix, FitsDummies}
 use Rattle.f_declaration_grammar.specs.DeclarationReading.{this_at, dots_at, text_at, maybe_colons_at, dim_behind, dim_at, dims_at, maybe_dims_at, label_at, bind_at, in_at, intent_by, intent_at, dimension_at, bind_attr_at, intent_attr_at, attr_by, attr_at, null_at, initial_at, entity_at, rename_at, only_at, type_attr_by, type_attr_at, pointer_attr_by, pointer_attr_at, pointer_at, prefix_at, unit_word_at, suffix_by, suffix_at, suffixes_at, dummy_names_at, dummies_at, prefixes_at}
 use Rattle.f_declaration_grammar.proofs.ListingLaws.{listed_again}
 use Rattle.f_declaration_grammar.proofs.DeclaredGrows.{grows_dim, grows_name}

@@ -5,11 +5,11 @@ use Rattle.f_lex.specs.declared.token.Kind.{Kind}
 use Rattle.f_lex.specs.declared.token.Mark.TheVariants as mark
 use Rattle.f_lex.specs.declared.token.Token.{Token}
 use Rattle.f_lex.specs.declared.token.Token.TheVariants as token
-use Rattle.f_grammar.specs.Grammar.{Expr, Maybe, Absent, Present, TypeOf}
+use Rattle.f_grammar.specs.Grammar.{Expr, Absent, Present, TypeOf}
 use Rattle.f_grammar.specs.Reading.{◌>>=◌, choose, Read, open_at, closed_at, comma_at, colon_at, colons_at, star_at, name_at, word_at, ends_bound, behind_group, expr_at, type_at}
 use Rattle.f_grammar.specs.ActionReading.{assign_at, arrow_at}
 use Rattle.f_declaration_grammar.specs.Listing.{behind_at, listed_at}
-use Rattle.f_declaration_grammar.specs.Declarations.{Dim, Upper, Bounds, Deferred, AssumedSize, AssumedRank, Access, Public, Private, Intent, In, Out, InOut, InOutTwoWords, Label, Attr, Parameter, Dimension, Allocatable, Pointer, Target, Optional, Value, Contiguous, Save, Accessible, Bind, For, Initial, NoInitial, Starts, Null, Entity, entity, Rename, renamed, Only, Plain, Renamed, UseList, All, Renames, Onlys, TypeAttr, TypeBind, TypeAccess, PointerAttr, PointerSave, PointerAccess, ProcPointer, pointer, Prefix, Recursive, Returns, Suffix, BindSuffix, Result, Ended, OfProgram, OfModule, OfSubroutine, OfFunction, OfType, OfInterface, Declared, Program, Module, Head, Contains, Use, Import, ImplicitNone, Variables, TypeStart, InterfaceStart, Accesses, SaveAll, Procedures, End, EndOf}
+use Rattle.f_declaration_grammar.specs.Declarations.{Dim, Upper, Bounds, Deferred, AssumedSize, AssumedRank, Public, Private, Intent, In, Out, InOut, InOutTwoWords, Label, Attr, Parameter, Dimension, Allocatable, Pointer, Target, Optional, Value, Contiguous, Save, Accessible, Bind, For, Initial, NoInitial, Starts, Null, Entity, entity, Rename, renamed, Only, Plain, Renamed, UseList, All, Renames, Onlys, TypeAttr, TypeBind, TypeAccess, PointerAttr, PointerSave, PointerAccess, ProcPointer, pointer, Prefix, Recursive, Returns, Suffix, BindSuffix, Result, Ended, OfProgram, OfModule, OfSubroutine, OfFunction, OfType, OfInterface, Declared, Program, Module, Head, Contains, Use, Import, ImplicitNone, Variables, TypeStart, InterfaceStart, Accesses, SaveAll, Procedures, End, EndOf}
 
 -- ---- single tokens
 

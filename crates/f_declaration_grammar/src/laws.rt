@@ -10,3 +10,13 @@ ghost use Rattle.f_declaration_grammar.specs.DeclarationReading.{declared_at};
 pub fn declaration_that_is_read_fits()
     ensures { (n : ℕ) (ts : List Token) → IfSome (declared_at n ts) (λ d. (ts ≡ spell_declared d) × FitsDeclared n d) }
 {}
+
+/// A statement that fits is read from its tokens.
+pub fn declaration_that_fits_is_read()
+    ensures { (n : ℕ) (d : Declared) → FitsDeclared n d → declared_at n (spell_declared d) ≡ Some d }
+{}
+
+/// The tokens of a statement are those of no other.
+pub fn one_declaration()
+    ensures { (n : ℕ) (a b : Declared) → FitsDeclared n a → FitsDeclared n b → spell_declared a ≡ spell_declared b → a ≡ b }
+{}

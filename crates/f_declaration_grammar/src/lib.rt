@@ -4,4 +4,4 @@
 
 mod laws;
 
-pub use laws::declaration_that_is_read_fits;
+pub use laws::{declaration_that_fits_is_read, declaration_that_is_read_fits, one_declaration};

@@ -1,5 +1,4 @@
 use Rattle.f_declaration_grammar.proofs.DeclaredSound.{declared_sound}
-use Rattle.f_declaration_grammar.proofs.PartsAgain.{dummies_again}
 use Rattle.f_declaration_grammar.proofs.laws.declaration_that_is_read_fits.Goals as goal
 
 pub returns : goal.returns
