@@ -2,70 +2,16 @@
 
 ghost use Rattle.std.specs.Prelude.{◌≡◌, ◌<◌, ℕ, IfOk, map, Some, None, if◌then◌else◌};
 ghost use Rattle.std.specs.Option.{option_map};
-ghost use Rattle.f_grammar.specs.Grammar.{Expr, Number, Truth, Text, Paren, Chain, Section, Strided, Present, kind, range, named, NoGroup, NoRange};
+ghost use Rattle.f_grammar.specs.Grammar.{Expr, Paren, Chain, Section, Strided, Present, kind, range};
 ghost use Rattle.f_grammar.specs.Reading.{chain};
-ghost use Rattle.f_expr_read.specs.Views.{view, view_link, view_argument, view_part, view_range, view_kind, view_type, view_maybe, links_of, number_of, mark_of, view_parameter, constructor_of, character_of};
+ghost use Rattle.f_expr_read.specs.Views.{view, view_link, view_argument, view_range, view_kind, view_type, view_maybe, links_of, number_of, mark_of, view_parameter, constructor_of, character_of};
 
-use f_lex::{Kind, Mark};
+use f_lex::Mark;
 use f_tree::{
-    Argument, CharacterParameter, Expression, KindSelector, Level, Link, Name, Part, Range, Sign,
-    TypeSpec, copy_bytes, copy_kind,
+    Argument, CharacterParameter, Expression, KindSelector, Level, Link, Range, Sign, TypeSpec,
 };
 use jf_base::{Boxed, List, Place};
 use std::alloc::{AllocError, Global};
-
-pub fn number(
-    alloc: Global,
-    digits: &List<u8>,
-    kind: &Option<Kind>,
-    place: Place,
-) -> Result<Expression, AllocError>
-    ensures { IfOk result (λ e. view e ≡ Number digits.now kind.now) }
-{
-    Ok(Expression::Number {
-        digits: copy_bytes(alloc, digits)?,
-        kind: copy_kind(alloc, kind)?,
-        place,
-    })
-}
-
-pub fn truth(
-    alloc: Global,
-    value: bool,
-    kind: &Option<Kind>,
-    place: Place,
-) -> Result<Expression, AllocError>
-    ensures { IfOk result (λ e. view e ≡ Truth value kind.now) }
-{
-    let kind = copy_kind(alloc, kind)?;
-    Ok(Expression::Truth { value, kind, place })
-}
-
-pub fn text(
-    alloc: Global,
-    bytes: &List<u8>,
-    kind: &Option<Kind>,
-    place: Place,
-) -> Result<Expression, AllocError>
-    ensures { IfOk result (λ e. view e ≡ Text bytes.now kind.now) }
-{
-    Ok(Expression::Text {
-        bytes: copy_bytes(alloc, bytes)?,
-        kind: copy_kind(alloc, kind)?,
-        place,
-    })
-}
-
-/// A part that is a name alone.
-pub fn plain_part(name: Name) -> Part
-    ensures { view_part result ≡ named name.bytes NoGroup NoRange }
-{
-    Part {
-        name,
-        arguments: None,
-        substring: None,
-    }
-}
 
 pub fn parenthesized(
     alloc: Global,

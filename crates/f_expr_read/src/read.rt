@@ -1,18 +1,16 @@
 //! Expressions, references and types that stand first among tokens.
 
-ghost use Rattle.std.specs.Prelude.{◌≡◌, List, IfOk, map, true};
-ghost use Rattle.f_lex.specs.declared.token.Mark.TheVariants as mark;
+ghost use Rattle.std.specs.Prelude.{◌≡◌, List, IfOk};
 ghost use Rattle.f_lex.specs.declared.token.Token.{Token};
-ghost use Rattle.f_grammar.specs.Grammar.{Expr, Args, Refer, TypeOf, put, spell, spell_args, spell_refer, spell_type, FitsArgs, FitsRefer, FitsType, Within, Stops, EndsType};
-ghost use Rattle.f_grammar.specs.Reading.{expr_at, args_at, refer_at, type_at};
+ghost use Rattle.f_grammar.specs.Grammar.{Expr, Refer, TypeOf, spell, spell_refer, spell_type, FitsRefer, FitsType, Within, Stops, EndsType};
+ghost use Rattle.f_grammar.specs.Reading.{expr_at, refer_at, type_at};
 ghost use Rattle.f_expr_read.specs.Gives.{Gives, taken};
-ghost use Rattle.f_expr_read.specs.Views.{tokens_of, view, view_argument, view_reference, view_type, args_of};
+ghost use Rattle.f_expr_read.specs.Views.{tokens_of, view, view_reference, view_type};
 
 use crate::error::ReadError;
-use crate::reader::{arguments, expression, reference, type_spec};
+use crate::reader::{expression, reference, type_spec};
 use f_lex::Spanned;
-use f_tree::{Argument, Expression, Reference, TypeSpec};
-use jf_base::List;
+use f_tree::{Expression, Reference, TypeSpec};
 use std::alloc::Global;
 
 /// The nestings of an expression, its own counted.
@@ -52,27 +50,4 @@ pub fn read_type(alloc: Global, tokens: &[Spanned]) -> Result<(TypeSpec, &[Spann
     ensures exact { Gives (λ x. (view_type x.0, tokens_of x.1.now)) result (type_at (expr_at 65) (tokens_of tokens.now)) }
 {
     type_spec(alloc, NESTINGS, tokens)
-}
-
-fn argument_list(
-    alloc: Global,
-    tokens: &[Spanned],
-) -> Result<(List<Argument>, &[Spanned]), ReadError>
-    ensures { Gives (λ x. (args_of (map view_argument x.0), tokens_of x.1.now)) result (args_at (expr_at 65) true (tokens_of tokens.now)) }
-{
-    let (all, rest) = arguments(alloc, NESTINGS, tokens)?;
-    Ok((List::from_vec(all), rest))
-}
-
-/// The arguments that stand first among tokens, behind their `(`, and the tokens behind their `)` (ISO/IEC 1539-1:2018, 9.5.3 and 15.5.1). `Form` says
-/// that no arguments stand there.
-pub fn read_arguments(
-    alloc: Global,
-    tokens: &[Spanned],
-) -> Result<(List<Argument>, &[Spanned]), ReadError>
-    ensures found { IfOk result (λ x. (tokens_of tokens.now ≡ spell_args (args_of (map view_argument x.0)) (put mark.Close (tokens_of x.1.now))) × FitsArgs 65 true (args_of (map view_argument x.0))) }
-    ensures only { (args : Args) (rest : List Token) → FitsArgs 65 true args → tokens_of tokens.now ≡ spell_args args (put mark.Close rest) → Gives (λ x. (args_of (map view_argument x.0), tokens_of x.1.now)) result (taken args rest) }
-    ensures exact { Gives (λ x. (args_of (map view_argument x.0), tokens_of x.1.now)) result (args_at (expr_at 65) true (tokens_of tokens.now)) }
-{
-    argument_list(alloc, tokens)
 }

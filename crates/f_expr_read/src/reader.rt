@@ -1,28 +1,45 @@
 //! From tokens to trees. Each function reads what stands first and answers it with the tokens behind it.
 
 ghost use Rattle.std.specs.Prelude.{◌≡◌, ◌<◌, ◌≤◌, ◌∷◌, [], map, length, is_some, true, false};
-ghost use Rattle.f_grammar.specs.Reading.{end_at, integer_at, logical_at, expr_at, level_at, links_at, most_links, primary_at, items_at, typed_items_at, args_at, others_at, arg_at, subscript_at, behind_first, section_at, upper_at, lower_at, stride_at, range_at, substring_at, behind_name, part_at, parts_at, refer_at, kind_at, selector_at, length_at, bare_param_at, param_at, mores_at, params_at, character_at, typed_by, type_at};
+ghost use Rattle.f_grammar.specs.Reading.{closed_at, end_at, integer_at, logical_at, expr_at, level_at, links_at, most_links, primary_at, items_at, typed_items_at, args_at, others_at, arg_at, subscript_at, behind_first, section_at, upper_at, lower_at, stride_at, range_at, substring_at, behind_name, part_at, parts_at, refer_at, kind_at, selector_at, length_at, bare_param_at, param_at, mores_at, params_at, character_at, derived_at, type_name_at, typed_by, type_at};
 ghost use Rattle.f_grammar.specs.Grammar.{more, arg, part};
 ghost use Rattle.f_expr_read.specs.Gives.{Gives, behind, parenthesized_at, kind_behind, kind_parameter, plain_items};
 ghost use Rattle.f_expr_read.specs.Views.{tokens_of, view, view_link, view_reference, view_part, view_range, view_argument, view_type, view_kind, view_parameter, view_maybe, view_selector, view_substring, links_of, parts_of, args_of, items_of, mores_of, params_of, item};
 
 use crate::error::ReadError;
 use crate::made::{
-    chain, character as character_type, constructor, kind, link, number, parenthesized, plain_part,
-    present, range, section, strided, text, truth,
+    chain, character as character_type, constructor, kind, link, parenthesized, present, range,
+    section, strided,
 };
-use crate::plain::{closed, ended, type_name};
 use crate::word::{
-    begins_colon, begins_typed, colon_at, colons_at, comma_at, end_at, ends_bound, key_at, link_at,
-    name_at, open_at, percent_at, sign_at, star_at, word_at,
+    begins_colon, begins_typed, closed_at, colon_at, colons_at, comma_at, end_at, ends_bound,
+    key_at, link_at, name_at, open_at, percent_at, sign_at, star_at, word_at,
 };
 use f_lex::{Mark, Spanned, Token};
 use f_tree::{
     Argument, CharacterParameter, Expression, KindSelector, Link, Name, Part, Range, Reference,
-    TypeSpec, copy_bytes,
+    TypeSpec, copy_bytes, copy_kind,
 };
 use jf_base::{Boxed, List, Place};
 use std::alloc::Global;
+
+fn closed(tokens: &[Spanned]) -> Result<&[Spanned], ReadError>
+    ensures { Gives (λ x. tokens_of x.now) result (closed_at (tokens_of tokens.now)) }
+{
+    match closed_at(tokens) {
+        Some((_, rest)) => Ok(rest),
+        None => Err(ReadError::Form),
+    }
+}
+
+fn ended(in_call: bool, tokens: &[Spanned]) -> Result<&[Spanned], ReadError>
+    ensures { Gives (λ x. tokens_of x.now) result (end_at in_call (tokens_of tokens.now)) }
+{
+    match end_at(in_call, tokens) {
+        Some(rest) => Ok(rest),
+        None => Err(ReadError::Form),
+    }
+}
 
 // An expression within so many nestings, its own counted.
 #[cycle(reader)]
@@ -102,10 +119,30 @@ fn primary(
     match tokens.split_first() {
         Some((first, rest)) => match &first.token {
             Token::Number { digits, kind } => {
-                Ok((number(alloc, digits, kind, first.place)?, rest))
+                let digits = copy_bytes(alloc, digits)?;
+                let kind = copy_kind(alloc, kind)?;
+                let place = first.place;
+                Ok((
+                    Expression::Number {
+                        digits,
+                        kind,
+                        place,
+                    },
+                    rest,
+                ))
             }
-            Token::Truth { value, kind } => Ok((truth(alloc, *value, kind, first.place)?, rest)),
-            Token::Text { bytes, kind } => Ok((text(alloc, bytes, kind, first.place)?, rest)),
+            Token::Truth { value, kind } => {
+                let kind = copy_kind(alloc, kind)?;
+                let value = *value;
+                let place = first.place;
+                Ok((Expression::Truth { value, kind, place }, rest))
+            }
+            Token::Text { bytes, kind } => {
+                let bytes = copy_bytes(alloc, bytes)?;
+                let kind = copy_kind(alloc, kind)?;
+                let place = first.place;
+                Ok((Expression::Text { bytes, kind, place }, rest))
+            }
             Token::Name(_) => {
                 let (r, rest) = reference(alloc, depth, tokens)?;
                 Ok((Expression::Reference(r), rest))
@@ -242,7 +279,7 @@ fn more_items<'a>(
 // Arguments and their `)`.
 #[cycle(reader)]
 #[tactic(auto, unfolding(f_grammar::specs::Reading::args_at))]
-pub fn arguments(
+fn arguments(
     alloc: Global,
     depth: u32,
     tokens: &[Spanned],
@@ -475,7 +512,14 @@ fn behind_part<'a>(
     ensures { Gives (λ x. (view_part x.0, tokens_of x.1.now)) result (behind_name (expr_at depth) name.bytes (tokens_of tokens.now)) }
 {
     match open_at(tokens) {
-        None => Ok((plain_part(name), tokens)),
+        None => Ok((
+            Part {
+                name,
+                arguments: None,
+                substring: None,
+            },
+            tokens,
+        )),
         Some((_, rest)) => {
             let (arguments, rest) = arguments(alloc, depth, rest)?;
             let (substring, rest) = substring(alloc, depth, rest)?;
@@ -719,6 +763,46 @@ fn character<'a>(
             let (all, rest) = parameters(alloc, depth, rest)?;
             let parameters = Some(List::from_vec(all));
             Ok((character_type(place, parameters), rest))
+        }
+    }
+}
+
+// What stands between the parentheses behind TYPE.
+#[tactic(auto, unfolding(f_grammar::specs::Reading::derived_at))]
+fn derived<'a>(
+    alloc: Global,
+    place: Place,
+    tokens: &'a [Spanned],
+) -> Result<(TypeSpec, &'a [Spanned]), ReadError>
+    ensures { Gives (λ x. (view_type x.0, tokens_of x.1.now)) result (derived_at (tokens_of tokens.now)) }
+{
+    match name_at(tokens) {
+        Some((name, at, rest)) => {
+            let bytes = copy_bytes(alloc, name)?;
+            let name = Name { bytes, place: at };
+            Ok((TypeSpec::Derived { place, name }, rest))
+        }
+        None => match star_at(tokens) {
+            Some((_, rest)) => Ok((TypeSpec::Assumed { place }, rest)),
+            None => Err(ReadError::Form),
+        },
+    }
+}
+
+#[tactic(auto, unfolding(f_grammar::specs::Reading::type_name_at))]
+fn type_name<'a>(
+    alloc: Global,
+    place: Place,
+    tokens: &'a [Spanned],
+) -> Result<(TypeSpec, &'a [Spanned]), ReadError>
+    ensures { Gives (λ x. (view_type x.0, tokens_of x.1.now)) result (type_name_at (tokens_of tokens.now)) }
+{
+    match open_at(tokens) {
+        None => Err(ReadError::Form),
+        Some((_, rest)) => {
+            let (t, rest) = derived(alloc, place, rest)?;
+            let rest = closed(rest)?;
+            Ok((t, rest))
         }
     }
 }
