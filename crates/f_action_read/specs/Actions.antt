@@ -6,10 +6,10 @@ use Rattle.f_tree.specs.declared.expression.Expression.{Expression}
 use Rattle.f_tree.specs.declared.expression.Reference.{Reference}
 use Rattle.f_tree.specs.declared.statement.Action.{Action}
 use Rattle.f_tree.specs.declared.statement.Action.TheVariants as action
-use Rattle.f_grammar.specs.Grammar.{Expr, Refer, refer, named, no_parts, NoGroup, group, range, Maybe, Absent, Present}
+use Rattle.f_grammar.specs.Grammar.{Expr, Refer, refer, named, no_parts, part, NoGroup, NoRange, range, Maybe, Absent, Present}
 use Rattle.f_grammar.specs.Actions as act
 use Rattle.f_grammar.specs.Actions.{Act, Refs, no_refs, ref, Exprs, no_exprs, expr, Status, NoStatus, status}
-use Rattle.f_grammar.specs.Reading.{◌>>=◌, choose, open_at, comma_at, word_at, args_at, expr_at}
+use Rattle.f_grammar.specs.Reading.{◌>>=◌, choose, comma_at, word_at}
 use Rattle.f_grammar.specs.ActionReading.{ends_at}
 use Rattle.f_expr_read.specs.Gives.{onto}
 use Rattle.f_expr_read.specs.Views.{view, view_reference, view_argument, view_maybe, group_of}
@@ -61,9 +61,11 @@ view_action (action.Print p items) = act.Print (exprs_of (map view items))
 view_action (action.Read p targets) = over (map view_reference targets) act.Read
 view_action (action.ReadUnit p s targets) = over (map view_reference targets) (act.ReadUnit (view_status s))
 
--- CALL behind its name
-abbrev pub called_at : ℕ → List ℕ → List Token → Option Act
-called_at n name ts = choose (open_at ts) (ends_at (act.Call name NoGroup) ts) (λ r. args_at (expr_at n) true r >>= λ x. ends_at (act.Call name (group x.0)) x.1)
+-- CALL of a name with its arguments, behind which nothing stands
+abbrev pub called : Refer → List Token → Option Act
+called (refer (named name g NoRange) no_parts) ts = ends_at (act.Call name g) ts
+called (refer (named name g NoRange) (part p ps)) ts = None
+called (refer (named name g (range lower upper)) ps) ts = None
 
 -- what stands behind a comma, unless this word and `=` do
 abbrev pub next_at : List ℕ → List Token → Option (List Token)

@@ -6,15 +6,13 @@ ghost use Rattle.f_grammar.specs.Actions.{Act, Refs};
 ghost use Rattle.f_grammar.specs.ActionReading.{ends_at, target_at, set_behind, value_at, call_at, code_at, error_at, objects_at, nullify_at, print_at, targets_at, read_unit_at, read_at, by_word, keyword_at, act_at};
 ghost use Rattle.f_expr_read.specs.Gives.{Gives};
 ghost use Rattle.f_expr_read.specs.Views.{tokens_of, view_reference};
-ghost use Rattle.f_action_read.specs.Actions.{over, stop_of, allocation_of, view_action, called_at};
+ghost use Rattle.f_action_read.specs.Actions.{over, stop_of, allocation_of, view_action, called};
 
 use crate::list::{expressions, in_front, references, status};
-use crate::mark::{arrow_at, assign_at, closed, comma, copied, opened, star};
-use f_expr_read::{
-    ReadError, name_at, open_at, read_arguments, read_expression, read_reference,
-};
+use crate::mark::{arrow_at, assign_at, closed, comma, opened, star};
+use f_expr_read::{ReadError, name_at, open_at, read_expression, read_reference};
 use f_lex::Spanned;
-use f_tree::{Action, Name, Reference};
+use f_tree::{Action, Reference};
 use jf_base::{List, Place};
 use std::alloc::Global;
 
@@ -31,10 +29,7 @@ fn ended(action: Action, tokens: &[Spanned]) -> Result<Action, ReadError>
 
 /// A reference and `=` or `=>` that stand first, whether it is `=>`, and what stands behind them.
 #[tactic(auto, unfolding(f_grammar::specs::ActionReading::target_at, f_grammar::specs::ActionReading::set_behind))]
-pub fn target(
-    alloc: Global,
-    tokens: &[Spanned],
-) -> Result<(Reference, bool, &[Spanned]), ReadError>
+pub fn target(alloc: Global, tokens: &[Spanned]) -> Result<(Reference, bool, &[Spanned]), ReadError>
     ensures { Gives (λ x. (view_reference x.0, x.1, tokens_of x.2.now)) result (target_at 65 (tokens_of tokens.now)) }
 {
     let (target, rest) = read_reference(alloc, tokens)?;
@@ -65,49 +60,33 @@ pub fn assigned(
     }
 }
 
-fn called(
-    alloc: Global,
-    place: Place,
-    name: Name,
-    tokens: &[Spanned],
-) -> Result<Action, ReadError>
-    ensures { Gives view_action result (called_at 65 name.bytes (tokens_of tokens.now)) }
+// CALL of what stands first, where that is a name with its arguments and nothing stands behind it.
+fn called(place: Place, designator: Reference, tokens: &[Spanned]) -> Result<Action, ReadError>
+    ensures { Gives view_action result (called (view_reference designator) (tokens_of tokens.now)) }
 {
-    match open_at(tokens) {
-        None => ended(
-            Action::Call {
-                place,
-                name,
-                arguments: None,
-            },
-            tokens,
-        ),
-        Some((_, rest)) => {
-            let (arguments, rest) = read_arguments(alloc, rest)?;
-            let arguments = Some(arguments);
-            ended(
+    let Reference { first, others } = designator;
+    match first.substring {
+        Some(_) => Err(ReadError::Form),
+        None => match others.as_slice().split_first() {
+            Some(_) => Err(ReadError::Form),
+            None => ended(
                 Action::Call {
                     place,
-                    name,
-                    arguments,
+                    name: first.name,
+                    arguments: first.arguments,
                 },
-                rest,
-            )
-        }
+                tokens,
+            ),
+        },
     }
 }
 
-#[tactic(auto, unfolding(f_grammar::specs::ActionReading::call_at))]
+#[tactic(auto, using(crate::proofs::Called::call_is))]
 fn call(alloc: Global, place: Place, tokens: &[Spanned]) -> Result<Action, ReadError>
     ensures { Gives view_action result (call_at 65 (tokens_of tokens.now)) }
 {
-    match name_at(tokens) {
-        None => Err(ReadError::Form),
-        Some((name, at, rest)) => {
-            let name = copied(alloc, name, at)?;
-            called(alloc, place, name, rest)
-        }
-    }
+    let (designator, rest) = read_reference(alloc, tokens)?;
+    called(place, designator, rest)
 }
 
 // STOP or ERROR STOP behind its words.

@@ -92,10 +92,7 @@ pub fn status<'a>(
 }
 
 /// The first of some references in front of the others.
-pub fn in_front(
-    first: Reference,
-    others: Vec<Reference>,
-) -> Result<List<Reference>, AllocError>
+pub fn in_front(first: Reference, others: Vec<Reference>) -> Result<List<Reference>, AllocError>
     ensures { IfOk result (λ all. all ≡ first ∷ others.items) }
 {
     let mut all = others;
