@@ -1,0 +1,5 @@
+pub mod ListingLaws
+pub mod DeclaredSound
+pub mod DeclaredGrows
+pub mod PartsAgain
+pub mod DeclaredAgain
