@@ -244,18 +244,18 @@ module _ (q : BlockProgram) (hs : List Assignment) (g : Placement) (On : ℕ →
           let dear = x.cost p f ip in
           let lg = long in
           proceeds q hs g On Addr Labelled x n again a w0 r told ready f b.insns b.end (vs ++ replicate (f.values - f.params) 0) w st (k + length xs) went.run lead2 (omega arith) (omega arith)
-              (record {
-                number = p;
-                is = ip;
-                data' = dR;
-                tail = blocks_code l 1 bs tail;
-                on = on2;
-                told = record { bytes = subst (λ u. AllBytes u) (sym eu) told2.bytes; left = told2.left ∙ sym eu; taken = told2.taken ∙ sym et; output = told2.output ∙ sym eo };
-                frames = frames;
-                level = level;
-                at = at_alike f (places_of l.homes) b.insns b.end (vs ++ replicate (f.values - f.params) 0) (passed (places_of l.homes) vs (cells l dS) f.params) (cells l dR) (λ u lu. got.0.held u lu) at0;
-                body = got.0.body;
-              }) e0 (λ m. e m ∙ ap (λ o. B.at_block o (go_on m) f (vs ++ replicate (f.values - f.params) 0) w st) here)
+          (record {
+            number = p;
+            is = ip;
+            data' = dR;
+            tail = blocks_code l 1 bs tail;
+            on = on2;
+            told = record { bytes = subst (λ u. AllBytes u) (sym eu) told2.bytes; left = told2.left ∙ sym eu; taken = told2.taken ∙ sym et; output = told2.output ∙ sym eo };
+            frames = frames;
+            level = level;
+            at = at_alike f (places_of l.homes) b.insns b.end (vs ++ replicate (f.values - f.params) 0) (passed (places_of l.homes) vs (cells l dS) f.params) (cells l dR) (λ u lu. got.0.held u lu) at0;
+            body = got.0.body;
+          }) e0 (λ m. e m ∙ ap (λ o. B.at_block o (go_on m) f (vs ++ replicate (f.values - f.params) 0) w st) here)
 
   -- room is made: x6 has the size
   lowers : (l : Layout) (d e : Data) → l.size ≤ d.regs 2 → d.regs 2 < 2 ^ 63 → e.regs 2 ≡ d.regs 2 → e.regs 6 ≡ l.size → e.mem ≡ d.mem → ((r : ℕ) → ¬ (r ≡ 5) → ¬ (r ≡ 6) → ¬ (r ≡ 7) → e.regs r ≡ d.regs r) → Small e.regs

@@ -88,7 +88,7 @@ module _ (low high : ℕ) where
       let e2 = second_bits n p1 h e1 in
       let e3 : p3 ≡ n = third_bits n p2 h e2 in
       subst (λ v. Gets low high rd v d (load_long rd n)) e3
-          (gets_append low high rd rd p0 p3 d c0 (c1 ++ (c2 ++ c3)) refl g0 (gets_append low high rd rd p1 p3 d1 c1 (c2 ++ c3) refl g1 (gets_append low high rd rd p2 p3 d2 c2 c3 refl g2 g3)))
+      (gets_append low high rd rd p0 p3 d c0 (c1 ++ (c2 ++ c3)) refl g0 (gets_append low high rd rd p1 p3 d1 c1 (c2 ++ c3) refl g1 (gets_append low high rd rd p2 p3 d2 c2 c3 refl g2 g3)))
 
   -- the number is in the register
   pub gets_number : (rd n : ℕ) (d : Data) → IsTarget rd → n < 2 ^ 64 → d.regs 0 ≡ 0 → Gets low high rd n d (load_number rd n)
