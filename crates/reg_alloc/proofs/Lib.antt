@@ -14,6 +14,7 @@ pub mod Searching
 pub mod Reaching
 pub mod Starting
 pub mod Scanning
+pub mod Choosing
 pub mod Assigning
 pub mod Assigned
 pub mod Below

@@ -1,11 +1,13 @@
 -- The scan over ranges.
-use Rattle.std.specs.Prelude.{◌≡◌, ◌≢◌, ℕ, ◌+◌, ◌<◌, ◌≤◌, ◌⊎◌, List, length, Option, Some, None, slice_index, slice_index_or, All, Contains}
+use Rattle.std.specs.Prelude.{◌≡◌, ◌≢◌, ℕ, ◌+◌, ◌<◌, ◌≤◌, ◌⊎◌, List, length, map, Option, Some, None, slice_index, slice_index_or, All, Contains}
 use Rattle.flatten.specs.declared.blocks.BlockProc.{BlockProc}
 use Rattle.block_homes.specs.declared.homes.Home.{Home}
 use Rattle.block_homes.specs.declared.homes.Home.TheVariants.{Register, Slot}
 use Rattle.reg_alloc.specs.Live.{Crowded}
 use Rattle.reg_alloc.specs.declared.ranges.Range.{Range}
 use Rattle.reg_alloc.specs.declared.scan.Start.{Start}
+use Rattle.reg_alloc.specs.declared.scan.Choice.{Choice}
+use Rattle.reg_alloc.specs.declared.scan.Choice.TheVariants as C
 use Rattle.reg_alloc.specs.Ranges.{RangeOf}
 
 abbrev pub no_range : Range
@@ -21,7 +23,24 @@ pub record Ranges (p : BlockProc) (ranges : List Range) : Type 0 where
   pub count : length ranges ≡ p.values
   pub each : (v : ℕ) → v < p.values → RangeOf p v (slice_index_or ranges v no_range)
 
--- choices: below 12 a register, 12 a slot, 13 nothing yet; the last user of each register, if there is one
+-- the number of a choice: below 12 of a register, 12 of a slot, 13 of none yet
+abbrev pub code : Choice → ℕ
+code C.Open = 13
+code (C.Saved r) = r
+code C.Slot = 12
+
+abbrev pub codes : List Choice → List ℕ
+codes choices = map code choices
+
+abbrev pub IsProper : Choice → Type 0
+IsProper C.Open = Unit {0}
+IsProper (C.Saved r) = r < 12
+IsProper C.Slot = Unit {0}
+
+abbrev pub AllProper : List Choice → Type 0
+AllProper choices = (u : ℕ) → u < length choices → IsProper (slice_index_or choices u C.Open)
+
+-- choices by these numbers; the last user of each register, if there is one
 pub record User (n : ℕ) (ranges : List Range) (choices users : List ℕ) (r : ℕ) : Type 0 where
   pub one : slice_index users r < n
   pub its : slice_index choices (slice_index users r) ≡ r

@@ -1,13 +1,14 @@
 //! Homes by a linear scan over the values' ranges.
 
-ghost use Rattle.std.specs.Prelude.{◌≡◌, ◌≢◌, ℕ, ◌+◌, ◌-◌, ◌<◌, ◌≤◌, ◌^◌, length, slice_index, IfOk};
+ghost use Rattle.std.specs.Prelude.{◌≡◌, ◌≢◌, true, false, ℕ, ◌+◌, ◌-◌, ◌<◌, ◌≤◌, ◌^◌, length, slice_index, slice_index_or, IfOk};
 ghost use Rattle.std.specs.List.Sorted.{IsNonDecreasingBy};
 ghost use Rattle.flatten.specs.Paths.{UsesAreSet};
 ghost use Rattle.block_homes.specs.Held.{total};
 ghost use Rattle.block_homes.specs.Valid.{IsNamed, AreHomes, IsVerdict};
 ghost use Rattle.block_homes.specs.declared.homes.Verdict.TheVariants as V;
 ghost use Rattle.reg_alloc.specs.Live.{SlotsCrowded};
-ghost use Rattle.reg_alloc.specs.Scan.{first_of, Ranges, Scan, Starts, FreeAnswer, AllUsers, IsChoice, Scanned, Chosen};
+ghost use Rattle.reg_alloc.specs.Scan.{first_of, Ranges, Scan, Starts, FreeAnswer, AllUsers, IsChoice, Scanned, Chosen, code, codes, IsProper, AllProper};
+ghost use Rattle.reg_alloc.specs.declared.scan.Choice.TheVariants as C;
 
 use crate::ranges::{Range, ranges_of};
 use crate::verdict::count_insns;
@@ -21,6 +22,25 @@ use std::alloc::{AllocError, Global};
 pub struct Start {
     pub first: u32,
     pub value: u32,
+}
+
+/// What the scan says of a value: nothing yet, one of the twelve registers that callees keep, by its place among them, or a slot of its own.
+#[derive(Clone, Copy, Debug)]
+pub enum Choice {
+    Open,
+    Saved(u8),
+    Slot,
+}
+
+fn is_open(choice: &Choice) -> bool
+    ensures open { (result ≡ true) → code choice.now ≡ 13 }
+    ensures chosen { (result ≡ false) → IsProper choice.now → code choice.now ≢ 13 }
+{
+    match choice {
+        Choice::Open => true,
+        Choice::Saved(_) => false,
+        Choice::Slot => false,
+    }
 }
 
 fn starts_by_value(alloc: Global, ranges: &[Range]) -> Result<Vec<Start>, AllocError>
@@ -66,7 +86,7 @@ fn free_at(ranges: &[Range], users: &[u32], k: u32, none: u32) -> Option<usize>
 fn choose(
     _p: &BlockProc,
     ranges: &[Range],
-    choices: &mut Vec<u32>,
+    choices: &mut Vec<Choice>,
     users: &mut Vec<u32>,
     _at: u32,
     start: &Start,
@@ -75,22 +95,27 @@ fn choose(
     requires value { start.now.value < _p.now.values }
     requires first { start.now.first ≡ first_of ranges.now start.now.value }
     requires order { _at ≤ start.now.first }
-    requires scan { Scan _p.now ranges.now choices.old.items users.old.items _at }
-    ensures scan { Scan _p.now ranges.now choices.new.items users.new.items start.now.first }
-    ensures kept { (u : ℕ) → slice_index choices.old.items u ≢ 13 → slice_index choices.new.items u ≢ 13 }
-    ensures done { start.now.first < 4294967295 → slice_index choices.new.items start.now.value ≢ 13 }
+    requires scan { Scan _p.now ranges.now (codes choices.old.items) users.old.items _at }
+    requires proper { AllProper choices.old.items }
+    ensures scan { Scan _p.now ranges.now (codes choices.new.items) users.new.items start.now.first }
+    ensures proper { AllProper choices.new.items }
+    ensures kept { (u : ℕ) → slice_index (codes choices.old.items) u ≢ 13 → slice_index (codes choices.new.items) u ≢ 13 }
+    ensures done { start.now.first < 4294967295 → slice_index (codes choices.new.items) start.now.value ≢ 13 }
 {
+    if start.first == 4294967295 {
+        return;
+    }
     let v = start.value as usize;
-    if start.first == 4294967295 || choices[v] != 13 {
+    if !is_open(&choices[v]) {
         return;
     }
     match free_at(ranges, users.as_slice(), start.first, _p.values) {
         Some(r) => {
-            choices[v] = r as u32;
+            choices[v] = Choice::Saved(r as u8);
             users[r] = start.value;
         }
         None => {
-            choices[v] = 12;
+            choices[v] = Choice::Slot;
         }
     }
 }
@@ -106,14 +131,26 @@ pub fn filled(alloc: Global, len: usize, item: u32) -> Result<Vec<u32>, AllocErr
     Ok(items)
 }
 
-// A register, below 12, or a slot, 12, for each value that is present anywhere.
-fn scan(alloc: Global, p: &BlockProc, ranges: &[Range]) -> Result<Vec<u32>, AllocError>
+fn all_open(alloc: Global, len: usize) -> Result<Vec<Choice>, AllocError>
+    ensures len { IfOk result (λ v. length v.items ≡ len) }
+    ensures all { IfOk result (λ v. (u : ℕ) → u < len → slice_index_or v.items u (C.Open) ≡ C.Open) }
+{
+    let mut items = Vec::with_capacity(alloc, len)?;
+    for _ in 0..len {
+        items.push(Choice::Open)?;
+    }
+    Ok(items)
+}
+
+// A register or a slot for each value that is present anywhere.
+fn scan(alloc: Global, p: &BlockProc, ranges: &[Range]) -> Result<Vec<Choice>, AllocError>
     requires ranges { Ranges p.now ranges.now }
-    ensures { IfOk result (λ choices. Scanned p.now ranges.now choices.items) }
+    ensures scan { IfOk result (λ choices. Scanned p.now ranges.now (codes choices.items)) }
+    ensures proper { IfOk result (λ choices. AllProper choices.items) }
 {
     let _values = p.values;
     let starts = starts_in_order(alloc, ranges)?;
-    let mut choices = filled(alloc, ranges.len(), 13)?;
+    let mut choices = all_open(alloc, ranges.len())?;
     let mut users = filled(alloc, 12, p.values)?;
     let mut at = 0u32;
     for i in 0..starts.len() {
@@ -124,27 +161,26 @@ fn scan(alloc: Global, p: &BlockProc, ranges: &[Range]) -> Result<Vec<u32>, Allo
     Ok(choices)
 }
 
-fn home_of(choice: u32, v: u32) -> Home
-    ensures { IsChoice v choice result }
+// Those registers are 8, 9 and 18 to 27. A value that is present nowhere gets the first.
+fn home_of(choice: &Choice, v: u32) -> Home
+    requires { IsProper choice.now }
+    ensures { IsChoice v (code choice.now) result }
 {
-    if choice < 2 {
-        Home::Register(8 + choice as u8)
-    } else if choice < 12 {
-        Home::Register(16 + choice as u8)
-    } else if choice == 12 {
-        Home::Slot(v)
-    } else {
-        Home::Register(8)
+    match choice {
+        Choice::Open => Home::Register(8),
+        Choice::Saved(r) => Home::Register(if *r < 2 { 8 + *r } else { 16 + *r }),
+        Choice::Slot => Home::Slot(v),
     }
 }
 
-fn homes_of(alloc: Global, choices: &[u32]) -> Result<Vec<Home>, AllocError>
-    requires { length choices.now < 2 ^ 32 }
-    ensures { IfOk result (λ homes. Chosen choices.now homes.items) }
+fn homes_of(alloc: Global, choices: &[Choice]) -> Result<Vec<Home>, AllocError>
+    requires count { length choices.now < 2 ^ 32 }
+    requires proper { AllProper choices.now }
+    ensures { IfOk result (λ homes. Chosen (codes choices.now) homes.items) }
 {
     let mut homes = Vec::with_capacity(alloc, choices.len())?;
     for v in 0..choices.len() {
-        homes.push(home_of(choices[v], v as u32))?;
+        homes.push(home_of(&choices[v], v as u32))?;
     }
     Ok(homes)
 }

@@ -1,11 +1,12 @@
-ghost use Rattle.std.specs.Prelude.{◌≡◌, length};
-ghost use Rattle.flatten.specs.Paths.{sets, uses_of, end_uses, goes_to};
+ghost use Rattle.std.specs.Prelude.{◌≡◌, length, All};
+ghost use Rattle.flatten.specs.Paths.{sets, uses_of, end_uses, goes_to, UsesAreSet};
+ghost use Rattle.block_homes.specs.Valid.{IsNamed};
 ghost use Rattle.reg_alloc.specs.Below as B;
 
-use super::{Assignment, Home, Verdict, validate};
-use flat_ir::Operation;
-use flatten::{Block, BlockEnd, BlockInsn, BlockProc};
-use jf_base::{List, Memory};
+use super::{Assignment, Home, Verdict, assign_all, validate};
+use flat_ir::{Exceeded, FlatExpr, FlatProc, FlatProgram, FlatStmt, Operation, flat_ok};
+use flatten::{Block, BlockEnd, BlockInsn, BlockProc, flatten};
+use jf_base::{Boxed, List, Memory};
 use std::alloc::{AllocError, Global};
 use std::process::Abort;
 use std::test::Fail;
@@ -260,5 +261,129 @@ fn results_go_to_their_homes_in_order(rt: HostRuntime) -> Result<(), Fail> {
     let p = proc(0, 3, vec![in alloc; block(insns, BlockEnd::Stop(2))]?);
     let shared = vec![in alloc; Home::Slot(0), Home::Slot(0), Home::Register(27)]?;
     assert_eq!(rt; verdict(alloc, &p, shared)?, Some(Verdict::No(2)));
+    Ok(())
+}
+
+// A value that is set before a loop and used in each turn, where another is set behind the use.
+#[test]
+fn a_use_is_lost_in_the_second_turn_of_a_loop(rt: HostRuntime) -> Result<(), Fail> {
+    let alloc = rt.alloc();
+    let before = block(vec![in alloc; BlockInsn::Number(0, 5)]?, BlockEnd::Jump(1));
+    let turn = block(
+        vec![in alloc; BlockInsn::Give(0), BlockInsn::Number(1, 6)]?,
+        BlockEnd::Branch(1, 1, 2),
+    );
+    let behind = block(Vec::new(alloc), BlockEnd::Stop(1));
+    let p = proc(0, 2, vec![in alloc; before, turn, behind]?);
+    let shared = vec![in alloc; Home::Register(8), Home::Register(8)]?;
+    assert_eq!(rt; verdict(alloc, &p, shared)?, Some(Verdict::No(2)));
+    let apart = vec![in alloc; Home::Register(8), Home::Register(9)]?;
+    assert_eq!(rt; verdict(alloc, &p, apart)?, Some(Verdict::Yes));
+    Ok(())
+}
+
+// The result of a call goes to the home of its argument, which is used behind it.
+#[test]
+fn a_call_that_sets_the_home_of_its_argument_loses_it(rt: HostRuntime) -> Result<(), Fail> {
+    let alloc = rt.alloc();
+    let results = List::from_vec(vec![in alloc; 1u32]?);
+    let arguments = List::from_vec(vec![in alloc; 0u32]?);
+    let insns = vec![in alloc;
+        BlockInsn::Number(0, 5),
+        BlockInsn::Call(results, 0, arguments),
+        BlockInsn::Give(0),
+    ]?;
+    let p = proc(0, 2, vec![in alloc; block(insns, BlockEnd::Stop(1))]?);
+    let shared = vec![in alloc; Home::Register(27), Home::Register(27)]?;
+    assert_eq!(rt; verdict(alloc, &p, shared)?, Some(Verdict::No(2)));
+    let apart = vec![in alloc; Home::Register(27), Home::Slot(0)]?;
+    assert_eq!(rt; verdict(alloc, &p, apart)?, Some(Verdict::Yes));
+    Ok(())
+}
+
+// A program that sets so many values, has these statements, and ends at a limit.
+fn program(alloc: Global, values: u32, body: Vec<FlatStmt>) -> Result<FlatProgram, AllocError> {
+    let mut stmts = Vec::new(alloc);
+    for v in 0..values {
+        stmts.push(FlatStmt::Set(v, FlatExpr::Number(10)))?;
+    }
+    for stmt in body {
+        stmts.push(stmt)?;
+    }
+    stmts.push(FlatStmt::Limit(Exceeded::Objects))?;
+    let entry = FlatProc {
+        params: 0,
+        values,
+        charge: 0,
+        body: List::from_vec(stmts),
+    };
+    Ok(FlatProgram {
+        procs: List::from_vec(vec![in alloc; entry]?),
+        image: List::from_vec(Vec::new(alloc)),
+        fixes: List::from_vec(Vec::new(alloc)),
+        entry: 0,
+    })
+}
+
+// How many of a procedure's values have slots by `assign_all`, where each verdict is Yes.
+fn slots_of(alloc: Global, procs: &[BlockProc]) -> Result<Option<usize>, Memory>
+    requires named { All IsNamed procs.now }
+    requires set_first { All UsesAreSet procs.now }
+{
+    let assignments = assign_all(alloc, procs)?;
+    let mut slots: usize = 0;
+    for (p, a) in procs.iter().zip(assignments.as_slice()) {
+        if checked(alloc, p, a)? != Some(Verdict::Yes) {
+            return Ok(None);
+        }
+        for home in a.homes.as_slice() {
+            if matches!(home, Home::Slot(_)) {
+                slots = slots.saturating_add(1);
+            }
+        }
+    }
+    Ok(Some(slots))
+}
+
+// None where the program doesn't hold together, or a verdict is No.
+fn slots_in(alloc: Global, p: &FlatProgram) -> Result<Option<usize>, Memory> {
+    if !flat_ok(p) {
+        return Ok(None);
+    }
+    let q = flatten(alloc, p)?;
+    let slots = slots_of(alloc, q.procs.as_slice())?;
+    Ok(slots)
+}
+
+#[test]
+fn of_forty_values_that_are_alive_at_once_at_most_twelve_have_registers(
+    rt: HostRuntime,
+) -> Result<(), Fail> {
+    let alloc = rt.alloc();
+    let mut gives = Vec::new(alloc);
+    for v in 0..40u32 {
+        gives.push(FlatStmt::Give(FlatExpr::Value(v)))?;
+    }
+    let p = program(alloc, 40, gives)?;
+    let slots = slots_in(alloc, &p)?.unwrap_or(0);
+    assert!(rt; slots >= 28);
+    Ok(())
+}
+
+// The counter is set before the loop, and set and used in each turn.
+#[test]
+fn a_counter_keeps_its_register_across_its_loop(rt: HostRuntime) -> Result<(), Fail> {
+    let alloc = rt.alloc();
+    let less = FlatExpr::Binary(
+        Operation::Sub,
+        Boxed::new(alloc, FlatExpr::Value(0))?,
+        Boxed::new(alloc, FlatExpr::Number(1))?,
+    );
+    let turn = List::from_vec(vec![in alloc; FlatStmt::Set(0, less)]?);
+    let out = List::from_vec(vec![in alloc; FlatStmt::Break(0)]?);
+    let choice = FlatStmt::If(FlatExpr::Value(0), turn, out);
+    let body = FlatStmt::Loop(List::from_vec(vec![in alloc; choice]?));
+    let p = program(alloc, 1, vec![in alloc; body]?)?;
+    assert_eq!(rt; slots_in(alloc, &p)?, Some(0));
     Ok(())
 }
