@@ -57,7 +57,7 @@ held_length env [] = refl
 held_length env (y ∷ ys) = omega (arith, held_length env ys)
 
 -- the bytes that an uncharged entry takes are among those beside the limit
-size_low : (f : BlockProc) → is_charged f ≡ false → (frame_size f ≤ need f) × (f.frame ≡ 0)
+pub size_low : (f : BlockProc) → is_charged f ≡ false → (frame_size f ≤ need f) × (f.frame ≡ 0)
 size_low f e =
     let z : f.frame ≡ 0 = grind (arith, nat_tests) in
     let s : frame_size f ≡ need f / 16 * 16 = ap (λ b. cond b f.frame (need f / 16 * 16)) e in
@@ -66,7 +66,7 @@ size_low f e =
 size_charged : (f : BlockProc) → is_charged f ≡ true → frame_size f ≡ f.frame
 size_charged f e = ap (λ b. cond b f.frame (need f / 16 * 16)) e
 
-first_most : (q : BlockProgram) (room : HasRoom q) → first_size (slice_get q.procs q.entry) + room.most ≤ 8192
+pub first_most : (q : BlockProgram) (room : HasRoom q) → first_size (slice_get q.procs q.entry) + room.most ≤ 8192
 first_most q room = go (slice_get q.procs q.entry) refl
   where
     charged' : (e : BlockProc) → IsProc q q.entry e → (b : Bool) → is_charged e ≡ b → cond b 0 (frame_size e) + room.most ≤ 8192
@@ -245,18 +245,18 @@ module _ (q : BlockProgram) (hs : List Assignment) (g : Placement) (On : ℕ →
           let dear = x.cost p f ip in
           let lg = long in
           proceeds q hs g On Addr Labelled x n again a w0 r told ready f b.insns b.end (vs ++ replicate (f.values - f.params) 0) w st (k + length xs) went.run lead2 (omega arith) (omega arith)
-              (record {
-                number = p;
-                is = ip;
-                data' = dR;
-                tail = blocks_code l 1 bs tail;
-                on = on2;
-                told = record { bytes = subst (λ u. AllBytes u) (sym eu) told2.bytes; left = told2.left ∙ sym eu; taken = told2.taken ∙ sym et; output = told2.output ∙ sym eo };
-                frames = frames;
-                level = level;
-                at = at_alike f (places_of l.homes) b.insns b.end (vs ++ replicate (f.values - f.params) 0) (passed (places_of l.homes) vs (cells l dS) f.params) (cells l dR) (λ u lu. got.0.held u lu) at0;
-                body = got.0.body;
-              }) e0 (λ m. e m ∙ ap (λ o. B.at_block o (go_on m) f (vs ++ replicate (f.values - f.params) 0) w st) here)
+          (record {
+            number = p;
+            is = ip;
+            data' = dR;
+            tail = blocks_code l 1 bs tail;
+            on = on2;
+            told = record { bytes = subst (λ u. AllBytes u) (sym eu) told2.bytes; left = told2.left ∙ sym eu; taken = told2.taken ∙ sym et; output = told2.output ∙ sym eo };
+            frames = frames;
+            level = level;
+            at = at_alike f (places_of l.homes) b.insns b.end (vs ++ replicate (f.values - f.params) 0) (passed (places_of l.homes) vs (cells l dS) f.params) (cells l dR) (λ u lu. got.0.held u lu) at0;
+            body = got.0.body;
+          }) e0 (λ m. e m ∙ ap (λ o. B.at_block o (go_on m) f (vs ++ replicate (f.values - f.params) 0) w st) here)
 
   -- room is made: x6 has the size
   lowers : (l : Layout) (d e : Data) → l.size ≤ d.regs 2 → d.regs 2 < 2 ^ 63 → e.regs 2 ≡ d.regs 2 → e.regs 6 ≡ l.size → e.mem ≡ d.mem → ((r : ℕ) → ¬ (r ≡ 5) → ¬ (r ≡ 6) → ¬ (r ≡ 7) → e.regs r ≡ d.regs r) → Small e.regs

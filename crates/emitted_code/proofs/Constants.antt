@@ -17,7 +17,7 @@ pair_low n h = go (nat_lt (nearest n) (2 ^ 31))
     go false = omega arith
 
 -- and wholly below 2 ^ 31 - 2048
-pair_whole : (n : ℕ) → n < 2 ^ 31 - 2048 → (upper n + lower n) % 2 ^ 64 ≡ n
+pub pair_whole : (n : ℕ) → n < 2 ^ 31 - 2048 → (upper n + lower n) % 2 ^ 64 ≡ n
 pair_whole n h =
     let t : nat_lt (nearest n) (2 ^ 31) ≡ true = grind (arith, nat_tests) in
     ap (λ b. (cond b (nearest n) (nearest n + (2 ^ 64 - 2 ^ 32)) + lower n) % 2 ^ 64) t ∙ (omega arith)
@@ -39,7 +39,7 @@ third_bits : (n p : ℕ) → n < 2 ^ 64 → p % 2 ^ 54 ≡ n / 2 ^ 10 → (shift
 third_bits n p h e = omega arith
 
 module _ (low high : ℕ) where
-  gets_pair : (rd n : ℕ) (d : Data) → IsTarget rd → Gets low high rd ((upper n + lower n) % 2 ^ 64) d (load_pair rd n)
+  pub gets_pair : (rd n : ℕ) (d : Data) → IsTarget rd → Gets low high rd ((upper n + lower n) % 2 ^ 64) d (load_pair rd n)
   gets_pair rd n d t =
       let u = upper n in
       let v = (poke d.regs rd u rd + lower n) % 2 ^ 64 in
@@ -88,7 +88,7 @@ module _ (low high : ℕ) where
       let e2 = second_bits n p1 h e1 in
       let e3 : p3 ≡ n = third_bits n p2 h e2 in
       subst (λ v. Gets low high rd v d (load_long rd n)) e3
-          (gets_append low high rd rd p0 p3 d c0 (c1 ++ (c2 ++ c3)) refl g0 (gets_append low high rd rd p1 p3 d1 c1 (c2 ++ c3) refl g1 (gets_append low high rd rd p2 p3 d2 c2 c3 refl g2 g3)))
+      (gets_append low high rd rd p0 p3 d c0 (c1 ++ (c2 ++ c3)) refl g0 (gets_append low high rd rd p1 p3 d1 c1 (c2 ++ c3) refl g1 (gets_append low high rd rd p2 p3 d2 c2 c3 refl g2 g3)))
 
   -- the number is in the register
   pub gets_number : (rd n : ℕ) (d : Data) → IsTarget rd → n < 2 ^ 64 → d.regs 0 ≡ 0 → Gets low high rd n d (load_number rd n)

@@ -124,7 +124,7 @@ module _ (q : BlockProgram) (hs : List Assignment) (g : Placement) (On : ℕ →
       let dear = x.dear in
       let w2 : Wrote l h b d2 (acts xs d2) = subst (λ z. Wrote l h z d2 (acts xs d2)) (poke_same d1.regs 10 b 10 refl) wr.0 in
       proceeds_seen q hs g On Addr Labelled x n again (run f (y ∷ rest) end env w stack) w r rel.told (x.laws.ready rel.number _ d r rel.on) f rest end (slice_set env v b) w' stack 1 (length xs) went.run r2 back.run went.leads t back.leads (omega (arith, few.1))
-          (set_next q hs g On Addr Labelled x f y rest end env w' stack rel.number rel.is d2 (acts xs d2) rel.tail back.run back.on (told_after (length xs) r2 back.run w' back.leads told) (ef ∙ rel.frames) rel.level a2 (body_world l w w' stack d2 em b2) v b refl lt w2) refl e
+      (set_next q hs g On Addr Labelled x f y rest end env w' stack rel.number rel.is d2 (acts xs d2) rel.tail back.run back.on (told_after (length xs) r2 back.run w' back.leads told) (ef ∙ rel.frames) rel.level a2 (body_world l w w' stack d2 em b2) v b refl lt w2) refl e
 
   pub take_case : (n : ℕ) → A' n → (f : BlockProc) (v : ℕ) (rest : List BlockInsn) (end : BlockEnd) (env : List ℕ) (w : World) (stack : List B.Waiting) (r : Run) → R' f (I.Take v ∷ rest) end env w stack r → N' (suc n) (run f (I.Take v ∷ rest) end env w stack) r
   take_case n again f v rest end env w stack r rel = go w.unread refl
@@ -152,14 +152,14 @@ module _ (q : BlockProgram) (hs : List Assignment) (g : Placement) (On : ℕ →
           let t = x.laws.takes_none rel.number behind d1 went.run went.on g1.value (now.left ∙ e) in
           let r2 : Run = record { state = (turn went.run).state; left = []; taken = went.run.taken; output = went.run.output } in
           take_done n again f v rest end env w w stack r rel (2 ^ 64 - 1) went.run r2 (omega arith) went t.turns t.on (record { bytes = now.bytes; left = sym e; taken = now.taken; output = now.output }) refl refl
-              (λ m. ap (λ bs. run f rest end (slice_set env v (first_byte bs)) (took bs w) stack m) e)
+          (λ m. ap (λ bs. run f rest end (slice_set env v (first_byte bs)) (took bs w) stack m) e)
       go (b ∷ bs) e =
           let t = x.laws.takes rel.number b bs behind d1 went.run went.on g1.value (now.left ∙ e) in
           let r2 : Run = record { state = (turn went.run).state; left = bs; taken = went.run.taken + 1; output = went.run.output } in
           let fresh : AllBytes (b ∷ bs) = subst (λ u. AllBytes u) e now.bytes in
           let lt = fresh.0 in
           take_done n again f v rest end env w (took (b ∷ bs) w) stack r rel b went.run r2 (omega arith) went t.turns t.on (record { bytes = fresh.1; left = refl; taken = ap (λ k. k + 1) now.taken; output = now.output }) refl refl
-              (λ m. ap (λ bs. run f rest end (slice_set env v (first_byte bs)) (took bs w) stack m) e)
+          (λ m. ap (λ bs. run f rest end (slice_set env v (first_byte bs)) (took bs w) stack m) e)
 
   -- behind a jump x6 may hold anything
   junk_stays : (d : Data) (j : ℕ) → Small d.regs → Stays d (set d 6 j)
@@ -221,18 +221,18 @@ module _ (q : BlockProgram) (hs : List Assignment) (g : Placement) (On : ℕ →
       let few = read_few l h 10 in
       let dear = x.dear in
       proceeds_seen q hs g On Addr Labelled x n again (run f (now ∷ rest) end env w stack) w r rel.told (x.laws.ready i _ d r rel.on) f rest end env (gave w v) stack (length xs + 1) 0 t.run r2 r2 t.leads u.turns (leads_none r2 (x.laws.ready i code d2 r2 u.on)) (omega (arith, few.1))
-          (record {
-            number = i;
-            is = rel.is;
-            data' = d2;
-            tail = rel.tail;
-            on = u.on;
-            told = record { bytes = told.bytes; left = told.left; taken = told.taken; output = ap (λ o. o ++ (d2.regs 10 % 256) ∷ []) told.output ∙ ap (λ k. w.output ++ k ∷ []) ev };
-            frames = rel.frames;
-            level = rel.level;
-            at = moved_none f (places_of l.homes) now rest end env (cells l d2) refl (scratched_at q hs g x.can.room Addr x.bounded f l (now ∷ rest) end env d d2 is a.stays a.mem rel.at);
-            body = body_world l w (gave w v) stack d2 refl (scratched q hs g x.can.room Addr x.bounded f l w stack d d2 is a.stays a.mem rel.body);
-          }) refl (λ m. refl)
+      (record {
+        number = i;
+        is = rel.is;
+        data' = d2;
+        tail = rel.tail;
+        on = u.on;
+        told = record { bytes = told.bytes; left = told.left; taken = told.taken; output = ap (λ o. o ++ (d2.regs 10 % 256) ∷ []) told.output ∙ ap (λ k. w.output ++ k ∷ []) ev };
+        frames = rel.frames;
+        level = rel.level;
+        at = moved_none f (places_of l.homes) now rest end env (cells l d2) refl (scratched_at q hs g x.can.room Addr x.bounded f l (now ∷ rest) end env d d2 is a.stays a.mem rel.at);
+        body = body_world l w (gave w v) stack d2 refl (scratched q hs g x.can.room Addr x.bounded f l w stack d d2 is a.stays a.mem rel.body);
+      }) refl (λ m. refl)
 
   -- to a block, after k instructions
   goes_to_block : (n : ℕ) → A' n → (a : Behaviour) (f : BlockProc) (end : BlockEnd) (env : List ℕ) (w : World) (stack : List B.Waiting) (r : Run) (i : ℕ) → IsProc q i f → Told r w → r.state.mode ≡ mode.Ready → w.frames ≡ f.frame + total stack → Level_of q hs g On Addr Labelled x i f stack
@@ -254,25 +254,25 @@ module _ (q : BlockProgram) (hs : List Assignment) (g : Placement) (On : ℕ →
           let low = j.some in
           let high = j.few in
           proceeds q hs g On Addr Labelled x n again a w r told ready f b.insns b.end env w stack (k + j.count) j.went.run all (omega arith) (omega arith)
-              (record {
-                number = i;
-                is = ip;
-                data' = d';
-                tail = p.tail;
-                on = j.went.on;
-                told = told_after (k + j.count) r j.went.run w all told;
-                frames = frames;
-                level = level;
-                at = scratched_at q hs g x.can.room Addr x.bounded f l b.insns b.end env d d' is st refl (next_block f (places_of l.homes) end env (cells l d) t b at ct eo);
-                body = scratched q hs g x.can.room Addr x.bounded f l w stack d d' is st refl body;
-              }) e0 (λ m. e m ∙ ap (λ o. B.at_block o (B.exec q.procs (at_places q hs g On Addr Labelled x) m) f env w stack) eo)
+          (record {
+            number = i;
+            is = ip;
+            data' = d';
+            tail = p.tail;
+            on = j.went.on;
+            told = told_after (k + j.count) r j.went.run w all told;
+            frames = frames;
+            level = level;
+            at = scratched_at q hs g x.can.room Addr x.bounded f l b.insns b.end env d d' is st refl (next_block f (places_of l.homes) end env (cells l d) t b at ct eo);
+            body = scratched q hs g x.can.room Addr x.bounded f l w stack d d' is st refl body;
+          }) e0 (λ m. e m ∙ ap (λ o. B.at_block o (B.exec q.procs (at_places q hs g On Addr Labelled x) m) f env w stack) eo)
 
   pub jump_case : (n : ℕ) → A' n → (f : BlockProc) (b : ℕ) (env : List ℕ) (w : World) (stack : List B.Waiting) (r : Run) → R' f [] (E.Jump b) env w stack r → N' (suc n) (run f [] (E.Jump b) env w stack) r
   jump_case n again f b env w stack r rel =
       let dear = x.dear in
       let ready = x.laws.ready rel.number _ rel.data' r rel.on in
       goes_to_block n again (run f [] (E.Jump b) env w stack) f (E.Jump b) env w stack r rel.number rel.is rel.told ready rel.frames rel.level b (0, omega arith, refl) rel.data' rel.body rel.at 0 r (leads_none r ready) (omega arith)
-          (λ to s. x.laws.jump rel.number b rel.tail to rel.data' r rel.on s) refl (λ m. refl)
+      (λ to s. x.laws.jump rel.number b rel.tail to rel.data' r rel.on s) refl (λ m. refl)
 
   branch_in : (v y a b : ℕ) → Contains (goes_to (E.Branch y a b)) (B.branch_to v a b)
   branch_in zero y a b = (1, omega arith, refl)
@@ -350,12 +350,12 @@ module _ (q : BlockProgram) (hs : List Assignment) (g : Placement) (On : ℕ →
           let t = went_then q hs g On Addr Labelled (length xs) 1 i i lines1 (Branch (M.Jal 0 0) b ∷ rel.tail) (acts xs d) (acts xs d) r t1 t2 in
           let dear = x.dear in
           goes_to_block n again (run f [] end env w stack) f end env w stack r i rel.is rel.told ready rel.frames rel.level b (branch_in zero y a b) (acts xs d) body1 at1 (length xs + 1) t.run t.leads (omega (arith, few))
-              (λ to s. x.laws.jump i b rel.tail to (acts xs d) t.run t.on s) refl (step zero e)
+          (λ to s. x.laws.jump i b rel.tail to (acts xs d) t.run t.on s) refl (step zero e)
       by (suc v) e =
           let dear = x.dear in
           let nz : ¬ ((acts xs d).regs ry ≡ 0) = λ c. (let k = value ∙ e in omega arith) in
           goes_to_block n again (run f [] end env w stack) f end env w stack r i rel.is rel.told ready rel.frames rel.level a (branch_in (suc v) y a b) (acts xs d) body1 at1 (length xs) t1.run t1.leads (omega (arith, few))
-              (λ to s. x.laws.taken i ry a (Branch (M.Jal 0 0) b ∷ rel.tail) to (acts xs d) t1.run t1.on rylow z nz s) refl (step (suc v) e)
+          (λ to s. x.laws.taken i ry a (Branch (M.Jal 0 0) b ∷ rel.tail) to (acts xs d) t1.run t1.on rylow z nz s) refl (step (suc v) e)
 
   seen_end : (r2 : Run) (w : World) (e : Ending) → r2.taken ≡ w.taken → r2.output ≡ w.output → mode_ending r2.state.mode ≡ e → seen r2 ≡ F.seen w e
   seen_end r2 w e et eo em = same r2.output w.output r2.taken w.taken (mode_ending r2.state.mode) e eo et em

@@ -31,7 +31,7 @@ module _ (low high : ℕ) (bounded : high ≤ 2 ^ 63) where
       let d1 = acts (load_number 7 offset) d in
       let e : (d1.regs 7 + d1.regs 2) % 2 ^ 64 ≡ d.regs 2 + offset = (let e7 = g.value in let e2 = g.others 2 (λ x. omega arith) (λ x. omega arith) in omega arith) in
       gets_append low high 7 7 offset (d.regs 2 + offset) d (load_number 7 offset) (Operate O.Add 7 7 2 ∷ []) refl g
-          (gets_one low high 7 (d.regs 2 + offset) d1 (Operate O.Add 7 7 2) (ap (set d1 7) e) (t, omega arith, omega arith) (omega arith))
+      (gets_one low high 7 (d.regs 2 + offset) d1 (Operate O.Add 7 7 2) (ap (set d1 7) e) (t, omega arith, omega arith) (omega arith))
 
   pub gets_word : (rd offset v : ℕ) (d : Data) → IsTarget rd → Reach low high 8 (d.regs 2 + offset) → d.regs 0 ≡ 0 → number 8 d.mem (d.regs 2 + offset) ≡ v → v < 2 ^ 64 → Gets low high rd v d (load_word rd offset)
   gets_word rd offset v d t h z is l = by (nat_lt offset 2048)

@@ -406,15 +406,15 @@ module _ (q : BlockProgram) (hs : List Assignment) (g : Placement) (On : ℕ →
               let dear = x.dear in
               let fr = rel.frames in
               proceeds q hs g On Addr Labelled x n again (run_of q hs g On Addr Labelled x f [] (E.Return ys) env w (v ∷ vs)) w r rel.told ready v.proc v.rest.insns v.rest.end env' w' vs count t3.run whole (omega arith) (omega (arith, few))
-                  (record {
-                    number = j;
-                    is = s.is;
-                    data' = d3;
-                    tail = s.tail;
-                    on = t3.on;
-                    told = record { bytes = told.bytes; left = told.left; taken = told.taken; output = told.output };
-                    frames = omega arith;
-                    level = s.level;
-                    at = moved v.proc pl s.insn v.rest.insns v.rest.end v.env env' (cells m' d2) (cells m' d3) at2 (subst (λ ts. Agrees pl v.proc.values (λ h. put_all pl h ts (o h)) env' (cells m' d3)) (sym s.sets_targets) k.agrees);
-                    body = k.body;
-                  }) refl (λ m. ap (λ o. B.if_value o (F.seen w' Wrong) (λ env. B.exec q.procs (at_places q hs g On Addr Labelled x) m (record { proc = v.proc; rest = v.rest; env = env; world = w'; stack = vs }))) eo)
+              (record {
+                number = j;
+                is = s.is;
+                data' = d3;
+                tail = s.tail;
+                on = t3.on;
+                told = record { bytes = told.bytes; left = told.left; taken = told.taken; output = told.output };
+                frames = omega arith;
+                level = s.level;
+                at = moved v.proc pl s.insn v.rest.insns v.rest.end v.env env' (cells m' d2) (cells m' d3) at2 (subst (λ ts. Agrees pl v.proc.values (λ h. put_all pl h ts (o h)) env' (cells m' d3)) (sym s.sets_targets) k.agrees);
+                body = k.body;
+              }) refl (λ m. ap (λ o. B.if_value o (F.seen w' Wrong) (λ env. B.exec q.procs (at_places q hs g On Addr Labelled x) m (record { proc = v.proc; rest = v.rest; env = env; world = w'; stack = vs }))) eo)

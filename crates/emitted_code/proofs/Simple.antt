@@ -110,7 +110,7 @@ module _ (q : BlockProgram) (hs : List Assignment) (g : Placement) (On : ℕ →
       let went = goes q hs g On Addr Labelled x.laws rel.number xs (rest_code (Lay rel.number f) rest end rel.tail) rel.data' r on done.1 in
       let dear = x.dear in
       proceeds q hs g On Addr Labelled x n again (run_of f (y ∷ rest) end env w stack) w r rel.told (x.laws.ready rel.number _ rel.data' r rel.on) f rest end (slice_set env v val) w stack (length xs) went.run went.leads low (omega arith)
-          (has_set q hs g On Addr Labelled x f y rest end env w stack r rel v val (length xs) (acts xs rel.data') went es lt done.0) refl e
+      (has_set q hs g On Addr Labelled x f y rest end env w stack r rel v val (length xs) (acts xs rel.data') went es lt done.0) refl e
 
   pub number_case : (n : ℕ) → Again q hs g On Addr Labelled x n → (f : BlockProc) (v num : ℕ) (rest : List BlockInsn) (end : BlockEnd) (env : List ℕ) (w : World) (stack : List B.Waiting) (r : Run) → Rel f (I.Number v num ∷ rest) end env w stack r → Now q hs g On Addr Labelled x (suc n) (run_of f (I.Number v num ∷ rest) end env w stack) r
   number_case n again f v num rest end env w stack r rel =
@@ -176,7 +176,7 @@ module _ (q : BlockProgram) (hs : List Assignment) (g : Placement) (On : ℕ →
       → Wrote l h val d (acts (xs ++ (y ∷ settle l h)) d) × AreSafe lo hi (xs ++ (y ∷ settle l h)) d
   by_last f l w stack d h val xs y is ih b sc e sf lt =
       subst (λ zs. Wrote l h val d (acts zs d) × AreSafe lo hi zs d) (regroup xs y (settle l h))
-          (settles q hs g x.can.room Addr x.bounded f l w stack d h val (xs ++ y ∷ []) is ih b (computes_last lo hi (result_register h) val d xs y sc e sf lt))
+      (settles q hs g x.can.room Addr x.bounded f l w stack d h val (xs ++ y ∷ []) is ih b (computes_last lo hi (result_register h) val d xs y sc e sf lt))
 
   pub binary_case : (n : ℕ) → Again q hs g On Addr Labelled x n → (f : BlockProc) (o : Operation) (v y z : ℕ) (rest : List BlockInsn) (end : BlockEnd) (env : List ℕ) (w : World) (stack : List B.Waiting) (r : Run) → Rel f (I.Binary o v y z ∷ rest) end env w stack r → Now q hs g On Addr Labelled x (suc n) (run_of f (I.Binary o v y z ∷ rest) end env w stack) r
   binary_case n again f o v y z rest end env w stack r rel =
@@ -326,18 +326,18 @@ module _ (q : BlockProgram) (hs : List Assignment) (g : Placement) (On : ℕ →
           let few = length-append xs (last ∷ []) in
           let few1 = length-append (fetch l hy 5) (fetch l hz 6) in
           proceeds q hs g On Addr Labelled x n again (run_of f (I.Store s y z ∷ rest) end env w stack) w r rel.told (x.laws.ready rel.number _ rel.data' r rel.on) f rest end env (with_memory w m') stack (length (xs ++ last ∷ [])) went.run went.leads (omega (arith, few)) (omega (arith, few, few1, fetch_few l hy 5, fetch_few l hz 6))
-              (record {
-                number = rel.number;
-                is = rel.is;
-                data' = d2;
-                tail = rel.tail;
-                on = subst (λ e. On rel.number code e went.run) e2 went.on;
-                told = (let k = told_after (length (xs ++ last ∷ [])) r went.run w went.leads rel.told in record { bytes = k.bytes; left = k.left; taken = k.taken; output = k.output });
-                frames = rel.frames;
-                level = rel.level;
-                at = moved_none f (places_of l.homes) (I.Store s y z) rest end env (cells l d2) refl at2;
-                body = subst (λ m. Body q hs g x.can.room Addr l (with_memory w m) stack d2) done.1 b2;
-              }) refl (λ m. ap (λ o. B.if_value o (F.seen w Wrong) (λ k. run_of f rest end env (with_memory w k) stack m)) eo)
+          (record {
+            number = rel.number;
+            is = rel.is;
+            data' = d2;
+            tail = rel.tail;
+            on = subst (λ e. On rel.number code e went.run) e2 went.on;
+            told = (let k = told_after (length (xs ++ last ∷ [])) r went.run w went.leads rel.told in record { bytes = k.bytes; left = k.left; taken = k.taken; output = k.output });
+            frames = rel.frames;
+            level = rel.level;
+            at = moved_none f (places_of l.homes) (I.Store s y z) rest end env (cells l d2) refl at2;
+            body = subst (λ m. Body q hs g x.can.room Addr l (with_memory w m) stack d2) done.1 b2;
+          }) refl (λ m. ap (λ o. B.if_value o (F.seen w Wrong) (λ k. run_of f rest end env (with_memory w k) stack m)) eo)
 
   -- an address, and then it goes to its home
   address_done : (n : ℕ) → Again q hs g On Addr Labelled x n → (f : BlockProc) (y : BlockInsn) (rest : List BlockInsn) (end : BlockEnd) (env : List ℕ) (w : World) (stack : List B.Waiting) (r : Run) (rel : Rel f (y ∷ rest) end env w stack r) (v val : ℕ)
@@ -358,7 +358,7 @@ module _ (q : BlockProgram) (hs : List Assignment) (g : Placement) (On : ℕ →
       let went = went_then q hs g On Addr Labelled 2 (length (settle l h)) rel.number rel.number (lines (settle l h) code) code d1 (acts (settle l h) d1) r a b in
       let dear = x.dear in
       proceeds q hs g On Addr Labelled x n again (run_of f (y ∷ rest) end env w stack) w r rel.told (x.laws.ready rel.number _ rel.data' r rel.on) f rest end (slice_set env v val) w stack (2 + length (settle l h)) went.run went.leads (omega arith) (omega (arith, settle_few l h))
-          (has_set q hs g On Addr Labelled x f y rest end env w stack r rel v val (2 + length (settle l h)) (acts (settle l h) d1) went es lt done.0) refl e
+      (has_set q hs g On Addr Labelled x f y rest end env w stack r rel v val (2 + length (settle l h)) (acts (settle l h) d1) went es lt done.0) refl e
     where
       settled : (f : BlockProc) (l : Layout) (w : World) (stack : List B.Waiting) (d : Data) (h : Home) (val : ℕ) → Laid f l → IsHome f.values h → Body q hs g x.can.room Addr l w stack d → val < 2 ^ 64
           → Wrote l h val d (acts (settle l h) (set d (result_register h) val)) × AreSafe lo hi (settle l h) (set d (result_register h) val)

@@ -143,7 +143,7 @@ module _ (q : BlockProgram) (hs : List Assignment) (g : Placement) (On : ℕ →
         → Leads k r r' → 1 ≤ k → k ≤ x.K → Related f rest end env w stack r' → a 0 ≡ F.seen w0 Running → ((m : ℕ) → a (suc m) ≡ going f rest end env w stack m) → Now (suc n) a r
     proceeds n again a w0 r told ready f rest end env w stack k r' l low high rel e0 e =
         alike_first x.K some 0 (suc n) a (unit (F.seen w0 Running) (going f rest end env w stack)) (shown r) same
-            (quietly x.K some n k (F.seen w0 Running) (going f rest end env w stack) r r' l low high (seen_now r w0 ready told) (again f rest end env w stack r' rel))
+        (quietly x.K some n k (F.seen w0 Running) (going f rest end env w stack) r r' l low high (seen_now r w0 ready told) (again f rest end env w stack r' rel))
       where
         same : (i : ℕ) → a i ≡ unit (F.seen w0 Running) (going f rest end env w stack) i
         same zero = e0
@@ -154,7 +154,7 @@ module _ (q : BlockProgram) (hs : List Assignment) (g : Placement) (On : ℕ →
         → Leads k1 r r1 → turn r1 ≡ r2 → Leads k2 r2 r3 → k1 + k2 + 1 ≤ x.K → Related f rest end env w stack r3 → a 0 ≡ F.seen w0 Running → ((m : ℕ) → a (suc m) ≡ going f rest end env w stack m) → Now (suc n) a r
     proceeds_seen n again a w0 r told ready f rest end env w stack k1 k2 r1 r2 r3 l1 t l2 high rel e0 e =
         alike_first x.K some 0 (suc n) a (unit (F.seen w0 Running) (going f rest end env w stack)) (shown r) same
-            (stepped x.K some n k1 k2 (F.seen w0 Running) (going f rest end env w stack) r r1 r2 r3 l1 t l2 high (seen_now r w0 ready told) (again f rest end env w stack r3 rel))
+        (stepped x.K some n k1 k2 (F.seen w0 Running) (going f rest end env w stack) r r1 r2 r3 l1 t l2 high (seen_now r w0 ready told) (again f rest end env w stack r3 rel))
       where
         same : (i : ℕ) → a i ≡ unit (F.seen w0 Running) (going f rest end env w stack) i
         same zero = e0
