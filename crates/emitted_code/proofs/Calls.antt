@@ -1,6 +1,7 @@
 -- Calls: a procedure begins.
 use Rattle.std.proofs.Common.{◌≡◌, ℕ, zero, suc, ◌+◌, ◌-◌, ◌*◌, ◌/◌, ◌%◌, ◌^◌, ◌<◌, ◌≤◌, ◌⊎◌, inl, inr, Bool, true, false, cond, List, [], ◌∷◌, ◌++◌, length, map, Option, Some, None, refl, sym, ap, ◌∙◌, subst, arith, length-append}
 use Rattle.std.specs.Prelude.{slice_get, slice_set, slice_index, Contains, nat_le, nat_eq, ◌==◌, ◌||◌, replicate, if◌then◌else◌}
+use Rattle.std.proofs.Math.Nat.{le-max_left, le-max_right}
 use Rattle.std.proofs.lemmas.Bool.Decides.{nat_tests, eqb_tells}
 use Rattle.behaviour.specs.Behaviour as R
 use Rattle.behaviour.specs.Behaviour.{Running, Wrong, Behaviour}
@@ -42,7 +43,7 @@ use Rattle.emitted_code.specs.Room.{IsProc, HasInsn, IsRoutine, HasRoom}
 use Rattle.emitted_code.proofs.Data.{Data, set, act, acts, acts_append, AreSafe, safe_append, Gets, gets_one, gets_append, Small, poke_small, Compared, same, other, compared}
 use Rattle.emitted_code.proofs.Constants.{gets_number, number_few}
 use Rattle.emitted_code.proofs.Relate.{IsKept, In, at_home, cells, Laid, cell_home, kept_range, IsFree, free_kept, Stays, at_alike, Frame, frame_moved, homes_same, sizes, total, IsOwn, Level, Waits, Suspended, suspended_regs, depth, apart, Body, spans, is_plain, top, floor, first_bytes_taken}
-use Rattle.emitted_code.proofs.Values.{gets_stays, seven, five, six, free_target, reads, scratched, scratched_at}
+use Rattle.emitted_code.proofs.Values.{gets_stays, seven, five, six, free_target, reads, home_small, scratched, scratched_at}
 use Rattle.emitted_code.proofs.Saves.{IsSaved, saved_range, Saved, saves, save_few}
 use Rattle.emitted_code.proofs.Args.{arg_at, arg_same, pass_few, receive_few, Passed, passes, homes_kept, Received, receives}
 use Rattle.emitted_code.proofs.Returns.{saved_few}
@@ -56,7 +57,7 @@ held_length env [] = refl
 held_length env (y ∷ ys) = omega (arith, held_length env ys)
 
 -- the bytes that an uncharged entry takes are among those beside the limit
-size_low : (f : BlockProc) → is_charged f ≡ false → (frame_size f ≤ need f) × (f.frame ≡ 0)
+pub size_low : (f : BlockProc) → is_charged f ≡ false → (frame_size f ≤ need f) × (f.frame ≡ 0)
 size_low f e =
     let z : f.frame ≡ 0 = grind (arith, nat_tests) in
     let s : frame_size f ≡ need f / 16 * 16 = ap (λ b. cond b f.frame (need f / 16 * 16)) e in
@@ -65,7 +66,7 @@ size_low f e =
 size_charged : (f : BlockProc) → is_charged f ≡ true → frame_size f ≡ f.frame
 size_charged f e = ap (λ b. cond b f.frame (need f / 16 * 16)) e
 
-first_most : (q : BlockProgram) (room : HasRoom q) → first_size (slice_get q.procs q.entry) + room.most ≤ 8192
+pub first_most : (q : BlockProgram) (room : HasRoom q) → first_size (slice_get q.procs q.entry) + room.most ≤ 8192
 first_most q room = go (slice_get q.procs q.entry) refl
   where
     charged' : (e : BlockProc) → IsProc q q.entry e → (b : Bool) → is_charged e ≡ b → cond b 0 (frame_size e) + room.most ≤ 8192
@@ -444,3 +445,318 @@ module _ (q : BlockProgram) (hs : List Assignment) (g : Placement) (On : ℕ →
           either : (b : Bool) → is_charged f ≡ b → length vs ≡ f.params → N' (suc n) a r
           either true h lv = charged_case h eo lv (nat_le (w.frames + f.frame) limit) refl
           either false h lv = free_case h eo lv (nat_le (w.frames + f.frame) limit) refl
+
+  plain_parts : (a b : Bool) → (a || b) ≡ false → (a ≡ false) × (b ≡ false)
+  plain_parts true b e = absurd (cc)
+  plain_parts false b e = (refl, e)
+
+  -- what a procedure that is called finds of the room
+  may_enter : (i : ℕ) (f : BlockProc) → IsProc q i f → (p : ℕ) (c : BlockProc) → IsProc q p c → (w : World) (v : B.Waiting) (stack : List B.Waiting) → v.proc ≡ f → w.frames ≡ f.frame + total stack → Level_of q hs g On Addr Labelled x i f stack
+      → (IsRoutine q i f → IsRoutine q p c × (need c + x.can.room.deep p ≤ x.can.room.deep i)) → (is_charged c ≡ false → ¬ (p ≡ q.entry)) → Enters p c w (v ∷ stack)
+  may_enter i f ip p c ic w v stack ev fr lv routine alone = by (is_plain q hs g x.can.room Addr i f) refl
+    where
+      same_size : frame_size v.proc ≡ frame_size f
+      same_size = ap (λ (z : BlockProc). frame_size z) ev
+
+      same_frame : v.proc.frame ≡ f.frame
+      same_frame = ap (λ (z : BlockProc). z.frame) ev
+
+      frames' : w.frames ≡ total (v ∷ stack)
+      frames' = let e = same_frame in omega arith
+
+      within' : total (v ∷ stack) ≤ limit
+      within' = let e = same_frame in let h = lv.within in omega arith
+
+      not_plain : is_charged c ≡ false → is_plain q hs g x.can.room Addr p c ≡ true → ⊥
+      not_plain h e = (let u = ap (λ b. b || nat_eq p q.entry) h in let n = alone h in let z : nat_eq p q.entry ≡ true = sym u ∙ e in absurd (n (let k : p ≡ q.entry = grind (arith, nat_tests) in k)))
+
+      level_free : is_charged c ≡ false → frame_size c + sizes (v ∷ stack) + x.can.room.deep p ≤ limit + 8192 → Level_of q hs g On Addr Labelled x p c (v ∷ stack)
+      level_free h room' = record {
+        plain = λ e. absurd (not_plain h e);
+        routine = λ e. room';
+        within = (let z = (size_low c h).1 in let k = within' in omega arith);
+      }
+
+      by : (b : Bool) → is_plain q hs g x.can.room Addr i f ≡ b → Enters p c w (v ∷ stack)
+      by true e =
+          let pl = lv.plain e in
+          let es = same_size in
+          let ef = same_frame in
+          let wi = lv.within in
+          let fm = first_most q x.can.room in
+          let exact : sizes (v ∷ stack) ≡ total (v ∷ stack) + first = omega arith in
+          let room' : is_charged c ≡ false → frame_size c + sizes (v ∷ stack) + x.can.room.deep p ≤ limit + 8192 = λ h. (let s = (size_low c h).0 in let m = x.can.room.routines p c (ic, h, alone h) in let k = within' in omega arith) in
+          record {
+            frames = frames';
+            within = within';
+            charged = λ h. exact;
+            uncharged = λ h. (level_free h (room' h), (let k = room' h in omega arith));
+          }
+      by false e =
+          let parts = plain_parts (is_charged f) (nat_eq i q.entry) e in
+          let ni : ¬ (i ≡ q.entry) = (let z = parts.1 in let k : ¬ (i ≡ q.entry) = grind (arith, nat_tests) in k) in
+          let r = routine (ip, parts.0, ni) in
+          let h = r.0.1 in
+          let es = same_size in
+          let rl = lv.routine e in
+          let s = (size_low c h).0 in
+          let m = r.1 in
+          let room' : frame_size c + sizes (v ∷ stack) + x.can.room.deep p ≤ limit + 8192 = omega arith in
+          record {
+            frames = frames';
+            within = within';
+            charged = λ k. absurd (let z = h in cc);
+            uncharged = λ k. (level_free h room', omega arith);
+          }
+
+  -- what is found behind a call: `d` has the arguments, and the address of what follows is in x1
+  found_call : (f : BlockProc) (i : ℕ) (ip : IsProc q i f) (insn : BlockInsn) (xs : List ℕ) (rest : List BlockInsn) (end : BlockEnd) (env : List ℕ) (w : World) (stack : List B.Waiting) (vs : List ℕ) (d : Data) (address : ℕ) (tail : List AsmLine)
+      → sets insn ≡ xs → length xs ≤ 2 → Level_of q hs g On Addr Labelled x i f stack → At f (places_of (Ly i f).homes) (insn ∷ rest) end env (cells (Ly i f) d) → Bo (Ly i f) w stack d → address < 2 ^ 64 → Addr i (lines (take_results (Ly i f) 0 xs) (rest_code (Ly i f) rest end tail)) address
+      → ((j : ℕ) → j < length vs → arg_at (d.regs 2) d j ≡ slice_index vs j) → length vs ≤ 8 + (Ly i f).words
+      → Found vs w (record { proc = f; rest = record { insns = rest; end = end }; env = env; targets = xs } ∷ stack) (set d 1 address)
+  found_call f i ip insn xs rest end env w stack vs d address tail es few level at body lt stands args short =
+      let l = Ly i f in
+      let is = x.laid i f ip in
+      let d1 = set d 1 address in
+      let away : (r : ℕ) → ¬ (r ≡ 1) → d1.regs r ≡ d.regs r = λ r n. poke_apart d.regs 1 address r n in
+      let st : Stays d d1 = record { zero = away 0 (λ z. omega arith); sp = away 2 (λ z. omega arith); base = away 3 (λ z. omega arith); kept = λ k kk. away k (λ z. (let c = (kept_range k kk).0 in omega arith)); small = poke_small d.regs 1 address body.small lt } in
+      let b1 = scratched q hs g x.can.room Addr x.bounded f l w stack d d1 is st refl body in
+      let a1 = scratched_at q hs g x.can.room Addr x.bounded f l (insn ∷ rest) end env d d1 is st refl at in
+      let all = spans q hs g x.can.room Addr l w stack d body in
+      let fits = is.fits in
+      let e2 = st.sp in
+      record {
+        memory = b1.memory;
+        bytes = b1.bytes;
+        zero = b1.zero;
+        base = b1.base;
+        aligned = b1.aligned;
+        small = b1.small;
+        rest = record {
+          number = i;
+          is = ip;
+          laid = is;
+          level = level;
+          insn = insn;
+          sets_targets = es;
+          at = a1;
+          few = few;
+          tail = tail;
+          code = subst (λ z. Addr i (lines (take_results l 0 xs) (rest_code l rest end tail)) z) (sym (poke_same d.regs 1 address 1 refl)) stands;
+          frame = b1.frame;
+        };
+        args = λ j lj. ap (λ z. arg_at z d1 j) e2 ∙ (arg_same (d.regs 2) d d1 j (λ l8. away (10 + j) (λ z. omega arith)) (λ g8. refl) ∙ args j lj);
+        wide = λ j g8 lj. omega arith;
+      }
+
+  -- the words that an instruction passes have room
+  words_most : (insns : List BlockInsn) (j : ℕ) (i : BlockInsn) → slice_get insns j ≡ Some i → words_of i ≤ most_words insns
+  words_most [] j i e = absurd (cc)
+  words_most (y ∷ ys) zero i e = (let k : words_of y ≡ words_of i = ap words_or e in let m = le-max_left (words_of y) (most_words ys) in omega arith)
+    where
+      words_or : Option BlockInsn → ℕ
+      words_or None = 0
+      words_or (Some i) = words_of i
+  words_most (y ∷ ys) (suc j) i e = (let k = words_most ys j i e in let m = le-max_right (words_of y) (most_words ys) in omega arith)
+
+  words_blocks : (bs : List Block) (b : ℕ) (k : Block) → slice_get bs b ≡ Some k → most_words k.insns ≤ words_of_blocks bs
+  words_blocks [] b k e = absurd (cc)
+  words_blocks (z ∷ bs) zero k e = (let u : most_words z.insns ≡ most_words k.insns = ap most_or e in let m = le-max_left (most_words z.insns) (words_of_blocks bs) in omega arith)
+    where
+      most_or : Option Block → ℕ
+      most_or None = 0
+      most_or (Some k) = most_words k.insns
+  words_blocks (z ∷ bs) (suc b) k e = (let u = words_blocks bs b k e in let m = le-max_right (most_words z.insns) (words_of_blocks bs) in omega arith)
+
+  words_bound : (f : BlockProc) (i : BlockInsn) → HasInsn f i → words_of i ≤ words_of_blocks f.blocks
+  words_bound f i h =
+      let k = h.1 in
+      let j = k.2 in
+      let a = words_most k.0.insns j.0 i j.1 in
+      let b = words_blocks f.blocks h.0 k.0 k.1 in
+      omega arith
+
+  pub call_case : (n : ℕ) → Again q hs g On Addr Labelled x n → (f : BlockProc) (xs : List ℕ) (p : ℕ) (ys : List ℕ) (rest : List BlockInsn) (end : BlockEnd) (env : List ℕ) (w : World) (stack : List B.Waiting) (r : Run) → Rel q hs g On Addr Labelled x f (I.Call xs p ys ∷ rest) end env w stack r → N' (suc n) (run_of q hs g On Addr Labelled x f (I.Call xs p ys ∷ rest) end env w stack) r
+  call_case n again f xs p ys rest end env w stack r rel = go (slice_get q.procs p) refl
+    where
+      i : ℕ
+      i = rel.number
+
+      l : Layout
+      l = Ly i f
+
+      insn : BlockInsn
+      insn = I.Call xs p ys
+
+      a : Behaviour
+      a = run_of q hs g On Addr Labelled x f (insn ∷ rest) end env w stack
+
+      d : Data
+      d = rel.data'
+
+      is : Laid f l
+      is = x.laid i f rel.is
+
+      has : HasInsn f insn
+      has = has_insn f (places_of l.homes) insn rest end env (cells l d) rel.at
+
+      v : B.Waiting
+      v = record { proc = f; rest = record { insns = rest; end = end }; env = env; targets = xs }
+
+      vs : List ℕ
+      vs = B.held env ys
+
+      short : length ys ≤ 8 + l.words
+      short = let h = words_bound f insn has in omega arith
+
+      pass' : List Straight
+      pass' = pass l 0 ys
+
+      ps : Passed q hs g x.can.room Addr x.bounded l w stack 0 vs d pass'
+      ps = passes q hs g x.can.room Addr x.bounded f l w stack env 0 ys d is (let h = short in omega arith) rel.body (λ y c. (home_low q hs g On Addr Labelled x f (insn ∷ rest) end env w stack r rel y c, home_is q hs g On Addr Labelled x f (insn ∷ rest) end env w stack r rel y c))
+
+      d1 : Data
+      d1 = acts pass' d
+
+      behind : List AsmLine
+      behind = lines (take_results l 0 xs) (rest_code l rest end rel.tail)
+
+      t1 : Went q hs g On Addr Labelled (length pass') i (Call (proc_name p) ∷ behind) d1 r
+      t1 = goes q hs g On Addr Labelled x.laws i pass' (Call (proc_name p) ∷ behind) d r rel.on ps.safe
+
+      ready : r.state.mode ≡ mode.Ready
+      ready = x.laws.ready i _ d r rel.on
+
+      at1 : At f (places_of l.homes) (insn ∷ rest) end env (cells l d1)
+      at1 = at_alike f (places_of l.homes) (insn ∷ rest) end env (cells l d) (cells l d1) (λ u lt. cell_home f l d1 u is lt ∙ (homes_kept q hs g x.can.room Addr x.bounded f l d d1 (home_of l u) is (is.homes u lt) ps.stays ps.above ∙ sym (cell_home f l d u is lt))) rel.at
+
+      go : (o : Option BlockProc) → slice_get q.procs p ≡ o → N' (suc n) a r
+      go None eo = goes_wrong q hs g On Addr Labelled x (suc n) a w r rel.told ready refl (λ m. ap (λ o. B.enter o (at_places q hs g On Addr Labelled x) (go_on m) vs w (v ∷ stack)) eo)
+      go (Some c) ic =
+          let t2 = x.laws.call i p c behind d1 t1.run t1.on ic in
+          let lead = leads_then (length pass') 2 r t1.run t2.went.run t1.leads t2.went.leads in
+          let fits' : length xs ≤ 2 = (x.can.insns i f rel.is insn has).1 in
+          let sh = short in
+          let hl = held_length env ys in
+          let found = found_call f i rel.is insn xs rest end env w stack vs d1 t2.address rel.tail refl fits' rel.level at1 ps.body t2.small t2.stands (λ j lj. subst (λ z. arg_at z d1 j ≡ slice_index vs j) (sym ps.stays.sp) (ap (λ k. arg_at (d.regs 2) d1 k) (let e : j ≡ 0 + j = omega arith in e) ∙ ps.args j lj)) (omega arith) in
+          let en = may_enter i f rel.is p c ic w v stack refl rel.frames rel.level (λ ro. x.can.room.calls i f ro insn has c ic) (λ h e. (x.can.room.alone c (subst (λ k. IsProc q k c) e ic) h).insns i f rel.is insn has e) in
+          let pf = pass_few l 0 ys in
+          entered n again a p c ic vs w (v ∷ stack) r t2.went.run (set d1 1 t2.address) (length pass' + 2) rel.told ready lead t2.went.on found en (omega arith) refl (λ m. ap (λ o. B.enter o (at_places q hs g On Addr Labelled x) (go_on m) vs w (v ∷ stack)) ic)
+
+  -- the procedure at an address
+  proc_found : (m a p : ℕ) → proc_at g.procs m a ≡ Some p → g.procs p ≡ a
+  proc_found zero a p e = absurd (cc)
+  proc_found (suc m) a p e = by (nat_eq (g.procs m) a) refl e (proc_found m a p)
+    where
+      by : (b : Bool) → nat_eq (g.procs m) a ≡ b → cond b (Some m) (proc_at g.procs m a) ≡ Some p → (proc_at g.procs m a ≡ Some p → g.procs p ≡ a) → g.procs p ≡ a
+      by true t e again = (let k : g.procs m ≡ a = grind (arith, nat_tests) in let mp : m ≡ p = cc in subst (λ z. g.procs z ≡ a) mp k)
+      by false t e again = again e
+
+  pub call_at_case : (n : ℕ) → Again q hs g On Addr Labelled x n → (f : BlockProc) (xs : List ℕ) (y : ℕ) (ys : List ℕ) (rest : List BlockInsn) (end : BlockEnd) (env : List ℕ) (w : World) (stack : List B.Waiting) (r : Run) → Rel q hs g On Addr Labelled x f (I.CallAt xs y ys ∷ rest) end env w stack r → N' (suc n) (run_of q hs g On Addr Labelled x f (I.CallAt xs y ys ∷ rest) end env w stack) r
+  call_at_case n again f xs y ys rest end env w stack r rel = at (proc_at g.procs (length q.procs) (slice_index env y)) refl
+    where
+      i : ℕ
+      i = rel.number
+
+      l : Layout
+      l = Ly i f
+
+      insn : BlockInsn
+      insn = I.CallAt xs y ys
+
+      a : Behaviour
+      a = run_of q hs g On Addr Labelled x f (insn ∷ rest) end env w stack
+
+      d : Data
+      d = rel.data'
+
+      is : Laid f l
+      is = x.laid i f rel.is
+
+      has : HasInsn f insn
+      has = has_insn f (places_of l.homes) insn rest end env (cells l d) rel.at
+
+      v : B.Waiting
+      v = record { proc = f; rest = record { insns = rest; end = end }; env = env; targets = xs }
+
+      vs : List ℕ
+      vs = B.held env ys
+
+      short : length ys ≤ 8 + l.words
+      short = let h = words_bound f insn has in omega arith
+
+      pass' : List Straight
+      pass' = pass l 0 ys
+
+      later : (z : ℕ) → Contains ys z → Contains (uses_from (insn ∷ rest) end 0) z
+      later z c = (suc c.0, omega (arith, c.1), c.2)
+
+      ps : Passed q hs g x.can.room Addr x.bounded l w stack 0 vs d pass'
+      ps = passes q hs g x.can.room Addr x.bounded f l w stack env 0 ys d is (let h = short in omega arith) rel.body (λ z c. (home_low q hs g On Addr Labelled x f (insn ∷ rest) end env w stack r rel z (later z c), home_is q hs g On Addr Labelled x f (insn ∷ rest) end env w stack r rel z (later z c)))
+
+      d1 : Data
+      d1 = acts pass' d
+
+      h : Home
+      h = home_of l y
+
+      ih : IsHome f.values h
+      ih = home_low q hs g On Addr Labelled x f (insn ∷ rest) end env w stack r rel y (0, omega arith, refl)
+
+      rd : Gets lo hi 6 (at_home l d1 h) d1 (read l h 6)
+      rd = reads q hs g x.can.room Addr x.bounded f l w stack d1 6 h is ih (free_target 6 six) ps.body
+
+      d2 : Data
+      d2 = acts (read l h 6) d1
+
+      st : Stays d1 d2
+      st = gets_stays lo hi 6 (at_home l d1 h) d1 (read l h 6) six rd ps.body.small
+
+      body2 : Bo l w stack d2
+      body2 = scratched q hs g x.can.room Addr x.bounded f l w stack d1 d2 is st rd.mem ps.body
+
+      at1 : At f (places_of l.homes) (insn ∷ rest) end env (cells l d1)
+      at1 = at_alike f (places_of l.homes) (insn ∷ rest) end env (cells l d) (cells l d1) (λ u lt. cell_home f l d1 u is lt ∙ (homes_kept q hs g x.can.room Addr x.bounded f l d d1 (home_of l u) is (is.homes u lt) ps.stays ps.above ∙ sym (cell_home f l d u is lt))) rel.at
+
+      at2 : At f (places_of l.homes) (insn ∷ rest) end env (cells l d2)
+      at2 = scratched_at q hs g x.can.room Addr x.bounded f l (insn ∷ rest) end env d1 d2 is st rd.mem at1
+
+      six_is : d2.regs 6 ≡ slice_index env y
+      six_is = rd.value ∙ (homes_kept q hs g x.can.room Addr x.bounded f l d d1 h is ih ps.stays ps.above ∙ home_is q hs g On Addr Labelled x f (insn ∷ rest) end env w stack r rel y (0, omega arith, refl))
+
+      six_small : d2.regs 6 < 2 ^ 64
+      six_small = subst (λ z. z < 2 ^ 64) (sym rd.value) (home_small q hs g x.can.room Addr x.bounded f l w stack d1 h ih ps.body)
+
+      behind : List AsmLine
+      behind = lines (take_results l 0 xs) (rest_code l rest end rel.tail)
+
+      xs' : List Straight
+      xs' = pass' ++ read l h 6
+
+      t1 : Went q hs g On Addr Labelled (length xs') i (Plain (M.Jalr 1 6 0) ∷ behind) d2 r
+      t1 = subst (λ z. Went q hs g On Addr Labelled (length xs') i (Plain (M.Jalr 1 6 0) ∷ behind) z r) (acts_append pass' (read l h 6) d) (goes q hs g On Addr Labelled x.laws i xs' (Plain (M.Jalr 1 6 0) ∷ behind) d r rel.on (safe_append lo hi pass' (read l h 6) d ps.safe rd.safe))
+
+      ready : r.state.mode ≡ mode.Ready
+      ready = x.laws.ready i _ d r rel.on
+
+      args2 : (j : ℕ) → j < length vs → arg_at (d2.regs 2) d2 j ≡ slice_index vs j
+      args2 j lj = ap (λ z. arg_at z d2 j) (st.sp ∙ ps.stays.sp) ∙ (arg_same (d.regs 2) d1 d2 j (λ l8. rd.others (10 + j) (λ z. omega arith) (λ z. omega arith)) (λ g8. ap (λ (m : Bytes). number 8 m (d.regs 2 + 8 * (j - 8))) rd.mem) ∙ (ap (λ k. arg_at (d.regs 2) d1 k) (let e : j ≡ 0 + j = omega arith in e) ∙ ps.args j lj))
+
+      go : (p : ℕ) → g.procs p ≡ slice_index env y → (o : Option BlockProc) → slice_get q.procs p ≡ o → ((m : ℕ) → a (suc m) ≡ B.enter o (at_places q hs g On Addr Labelled x) (go_on m) vs w (v ∷ stack)) → N' (suc n) a r
+      go p ep None eo e = goes_wrong q hs g On Addr Labelled x (suc n) a w r rel.told ready refl e
+      go p ep (Some c) ic e =
+          let t2 = x.laws.call_at i p c behind d2 t1.run t1.on ic six_small (six_is ∙ sym ep) in
+          let lead = leads_then (length xs') 1 r t1.run t2.went.run t1.leads t2.went.leads in
+          let fits' : length xs ≤ 2 = x.can.insns i f rel.is insn has in
+          let sh = short in
+          let hl = held_length env ys in
+          let found = found_call f i rel.is insn xs rest end env w stack vs d2 t2.address rel.tail refl fits' rel.level at2 body2 t2.small t2.stands args2 (omega arith) in
+          let en = may_enter i f rel.is p c ic w v stack refl rel.frames rel.level (λ ro. absurd (x.can.room.calls i f ro insn has)) (λ hc e. (let far = x.alone p c ic e hc in let s6 = six_small in let e6 = six_is in omega arith)) in
+          let pf = pass_few l 0 ys in
+          let rf = (read_few l h 6).1 in
+          let la = length-append pass' (read l h 6) in
+          entered n again a p c ic vs w (v ∷ stack) r t2.went.run (set d2 1 t2.address) (length xs' + 1) rel.told ready lead t2.went.on found en (omega arith) refl e
+
+      at : (o : Option ℕ) → proc_at g.procs (length q.procs) (slice_index env y) ≡ o → N' (suc n) a r
+      at None eo = goes_wrong q hs g On Addr Labelled x (suc n) a w r rel.told ready refl (λ m. ap (λ o. B.if_value o (F.seen w Wrong) (λ p. B.enter (slice_get q.procs p) (at_places q hs g On Addr Labelled x) (go_on m) vs w (v ∷ stack))) eo)
+      at (Some p) eo = go p (proc_found (length q.procs) (slice_index env y) p eo) (slice_get q.procs p) refl (λ m. ap (λ o. B.if_value o (F.seen w Wrong) (λ p. B.enter (slice_get q.procs p) (at_places q hs g On Addr Labelled x) (go_on m) vs w (v ∷ stack))) eo)

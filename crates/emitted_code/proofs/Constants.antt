@@ -17,7 +17,7 @@ pair_low n h = go (nat_lt (nearest n) (2 ^ 31))
     go false = omega arith
 
 -- and wholly below 2 ^ 31 - 2048
-pair_whole : (n : ℕ) → n < 2 ^ 31 - 2048 → (upper n + lower n) % 2 ^ 64 ≡ n
+pub pair_whole : (n : ℕ) → n < 2 ^ 31 - 2048 → (upper n + lower n) % 2 ^ 64 ≡ n
 pair_whole n h =
     let t : nat_lt (nearest n) (2 ^ 31) ≡ true = grind (arith, nat_tests) in
     ap (λ b. (cond b (nearest n) (nearest n + (2 ^ 64 - 2 ^ 32)) + lower n) % 2 ^ 64) t ∙ (omega arith)
@@ -39,7 +39,7 @@ third_bits : (n p : ℕ) → n < 2 ^ 64 → p % 2 ^ 54 ≡ n / 2 ^ 10 → (shift
 third_bits n p h e = omega arith
 
 module _ (low high : ℕ) where
-  gets_pair : (rd n : ℕ) (d : Data) → IsTarget rd → Gets low high rd ((upper n + lower n) % 2 ^ 64) d (load_pair rd n)
+  pub gets_pair : (rd n : ℕ) (d : Data) → IsTarget rd → Gets low high rd ((upper n + lower n) % 2 ^ 64) d (load_pair rd n)
   gets_pair rd n d t =
       let u = upper n in
       let v = (poke d.regs rd u rd + lower n) % 2 ^ 64 in

@@ -15,3 +15,4 @@ pub mod Saves
 pub mod Returns
 pub mod Args
 pub mod Calls
+pub mod Whole
