@@ -16,3 +16,5 @@ pub mod Returns
 pub mod Args
 pub mod Calls
 pub mod Whole
+pub mod MachineMemory
+pub mod Bridge
