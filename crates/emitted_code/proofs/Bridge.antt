@@ -98,7 +98,7 @@ regs_set rs f rd v t n h r lt = ap (λ xs. slice_index xs r) (set_same rs rd v t
     go (other m) = get_or-set_other rs rd r v 0 (λ e. m e) ∙ (h r lt ∙ sym (poke_apart f rd v r m))
 
 -- what a straight instruction does in the machine's own words
-data Does (s : State) (d : Data) (x : Straight) : Type 0 where
+pub data Does (s : State) (d : Data) (x : Straight) : Type 0 where
   sets : (rd v : ℕ) → S.act (insn_of x) s ≡ S.set_on s rd v → IsTarget rd → act x d ≡ set d rd v → Does s d x
   loads : (w : IntWidth) (is_signed : Bool) (rd address at v : ℕ) → S.act (insn_of x) s ≡ S.load s w is_signed rd address → MM.place_of s.memory 0 (byte_len w) address ≡ Ok at → MM.value_at s.memory w is_signed at ≡ v → IsTarget rd → act x d ≡ set d rd v → Does s d x
   stores : (w : IntWidth) (address value at : ℕ) → S.act (insn_of x) s ≡ S.store s w address value → MM.place_of s.memory s.code (byte_len w) address ≡ Ok at → s.code ≤ at → at + byte_len w ≤ length s.memory → act x d ≡ record { regs = d.regs; mem = put (byte_len w) d.mem (65536 + at) value } → Does s d x
@@ -194,7 +194,7 @@ value_is W4 false memory at v e lt = e
 value_is W8 false memory at v e lt = e
 
 module _ (low high : ℕ) (bottom : 65536 ≤ low) where
-  does : (x : Straight) (s : State) (d : Data) → Like high s d → 65536 + s.code ≤ low → AreBytes d.mem → Safe low high x d → Does s d x
+  pub does : (x : Straight) (s : State) (d : Data) → Like high s d → 65536 + s.code ≤ low → AreBytes d.mem → Safe low high x d → Does s d x
   does (Upper rd imm) s d l c b sf = sets rd imm (upper_act rd imm s) sf refl
   does (AddImmediate rd rs imm) s d l c b sf = sets rd ((register s rs + imm) % 2 ^ 64) (add_act rd rs imm s) sf.0 (ap (λ v. set d rd ((v + imm) % 2 ^ 64)) (sym (l.regs rs sf.1)))
   does (ShiftLeft rd rs n) s d l c b sf = sets rd (shifted_left (register s rs) n) (shift_act rd rs n s) sf.0 (ap (λ v. set d rd (shifted_left v n)) (sym (l.regs rs sf.1)))

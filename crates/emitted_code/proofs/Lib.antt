@@ -18,3 +18,4 @@ pub mod Calls
 pub mod Whole
 pub mod MachineMemory
 pub mod Bridge
+pub mod Keeps
