@@ -2,7 +2,7 @@
 use Rattle.std.proofs.Common.{◌≡◌, ℕ, zero, suc, ◌+◌, ◌-◌, ◌*◌, ◌/◌, ◌%◌, ◌^◌, ◌<◌, ◌≤◌, ◌⊎◌, inl, inr, Bool, true, false, cond, List, [], ◌∷◌, ◌++◌, length, take, drop, Option, Some, None, refl, sym, ap, ◌∙◌, subst, arith}
 use Rattle.std.specs.Prelude.{slice_get, slice_set, slice_index, if◌then◌else◌, nat_eq, nat_lt, ◌==◌, not}
 use Rattle.std.specs.Int.{w32, byte_len, cast_signed}
-use Rattle.std.proofs.lemmas.List.{length-set, length-take-le, take-append-le}
+use Rattle.std.proofs.lemmas.List.{length-set, take-take, length-take-le, take-append-le}
 use Rattle.byteorder.specs.Endian.{little_bytes}
 use Rattle.std.proofs.lemmas.Bool.Decides.{nat_tests}
 use Rattle.std.proofs.lemmas.Option.{slice_get_within}
@@ -27,6 +27,7 @@ use Rattle.rv_isa.specs.Encode.{IsEncodable, encode_of}
 use Rattle.assembled_run.specs.Program.{AreLinked, UnitAt, line_address, name_address}
 use Rattle.assembled_run.specs.Machine.{HasCodeOf, IsAt, moved_to, IsQuiet, Leads, is_taken, Within}
 use Rattle.assembled_run.proofs.Leads.{still, leads_one, at_moved}
+use Rattle.assembled_run.proofs.Standing.{offset_code}
 use Rattle.assembled_run.proofs.Laws.{plain_at, plain_steps, keeps_code, label_stays, are_in_code, jump_leads, branch_leads, call_leads, address_leads}
 use Rattle.flat_ir.specs.Bytes.{Bytes, put}
 use Rattle.flat_ir.specs.Ranges.{AreBytes}
@@ -50,12 +51,6 @@ use Rattle.emitted_code.proofs.Laws.{Went, Jumped, Called, Turned, Laws}
 from_le : (xs : List AsmLine) (k : ℕ) (ls : List AsmLine) → From xs k ls → k ≤ length xs
 from_le xs k ls (here w) = omega arith
 from_le xs k ls (later x xs' k' w f) = (let h = from_le xs' k' ls f in omega arith)
-
-take-take-le : (n m : ℕ) (xs : List ℕ) → n ≤ m → take n (take m xs) ≡ take n xs
-take-take-le zero m xs le = refl
-take-take-le (suc n) zero xs le = absurd (omega arith)
-take-take-le (suc n) (suc m) [] le = refl
-take-take-le (suc n) (suc m) (x ∷ xs) le = ap (λ t. x ∷ t) (take-take-le n m xs (omega arith))
 
 -- one instruction, with nothing seen
 leads_quietly : (r r' : Run) → r.state.mode ≡ mode.Ready → turn r ≡ r' → r'.state.mode ≡ mode.Ready → r'.left ≡ r.left → r'.taken ≡ r.taken → r'.output ≡ r.output → Leads 1 r r'
@@ -93,11 +88,14 @@ module _ (us : List AsmUnit) (os : List ObjUnit) (image : Image) (made : AreLink
       let a2 = a.2 in
       (a.0, omega arith)
 
-  small_address : (i : ℕ) (w : UnitAt us os i) (k : ℕ) → low ≤ high → k ≤ length w.unit.lines → (line_address w k % 4 ≡ 0) × (line_address w k < 2 ^ 63 + 1)
-  small_address i w k lh le =
+  place_next : (i : ℕ) (w : UnitAt us os i) (k : ℕ) (r : Run) (d : Data) → Like high r.state d → HasCodeOf image r.state → k ≤ length w.unit.lines → line_address w k < 2 ^ 63 + 1
+  place_next i w k r d l h le =
       let a = are_in_code us os image made i w k le in
       let a2 = a.2 in
-      (a.0, omega arith)
+      let e = h.len in
+      let o = h.long in
+      let m = l.long in
+      omega arith
 
   -- a state that was moved
   like_moved : (r : Run) (d d' : Data) (registers : List ℕ) (p : ℕ) → Like high r.state d → d'.mem ≡ d.mem → length registers ≡ 32 → ((j : ℕ) → j < 32 → slice_index registers j ≡ d'.regs j) → Like high (moved_to r registers p).state d'
@@ -193,7 +191,7 @@ module _ (us : List AsmUnit) (os : List ObjUnit) (image : Image) (made : AreLink
             stored_code : (memory : List ℕ) (code at n v : ℕ) → code ≤ at → at ≤ length memory → take code (stored memory at n v) ≡ take code memory
             stored_code memory code at n v le lt =
                 let e : length (take at memory) ≡ at = length-take-le at memory lt in
-                take-append-le code (take at memory) (little_bytes n v ++ drop (at + n) memory) (omega arith) ∙ take-take-le code at memory le
+                take-append-le code (take at memory) (little_bytes n v ++ drop (at + n) memory) (omega arith) ∙ take-take code at memory le
 
     label : (i b : ℕ) (ls : List AsmLine) (d : Data) (r : Run) → On i (Label b ∷ ls) d r → On i ls d r
     label i b ls d r h =
@@ -331,3 +329,141 @@ module _ (us : List AsmUnit) (os : List ObjUnit) (image : Image) (made : AreLink
 
     limits : (i n : ℕ) (ls : List AsmLine) (d : Data) (r : Run) → On i (Plain M.Ecall ∷ ls) d r → d.regs 17 ≡ 94 → d.regs 10 ≡ n → n ≤ 1 → turn r ≡ record { state = record r.state { mode = mode.Ended (event.Limited n) }; left = r.left; taken = r.taken; output = r.output }
     limits i n ls d r h e17 en le = limit_turn r n (word i M.Ecall ls d r h).0 (h.like.regs 17 (omega arith) ∙ e17) (h.like.regs 10 (omega arith) ∙ en) le
+
+    -- the unit of a procedure, and of the image
+    pub record ProcUnit (p : ℕ) (f : BlockProc) : Type 0 where
+      pub unit : UnitAt us os p
+      pub named : unit.unit.name ≡ proc_name p
+      pub lines : unit.unit.lines ≡ proc_lines (layout_of f (homes_in (slice_get hs p))) f
+      pub some : 0 < length unit.object.code
+      pub address : g.procs p < 2 ^ 64 → g.procs p ≡ line_address unit 0
+
+    pub record ImageUnit : Type 0 where
+      pub unit : UnitAt us os (length q.procs)
+      pub named : unit.unit.name ≡ image_name
+      pub address : (n : ℕ) → n ≤ length q.image → name_address unit (image_place n) ≡ g.image + n
+
+    module _ (procs : (p : ℕ) (f : BlockProc) → IsProc q p f → ProcUnit p f) (with_image : ImageUnit) where
+      abbrev code : ℕ → BlockProc → List AsmLine
+      code p f = proc_lines (layout_of f (homes_in (slice_get hs p))) f
+
+      -- at the first line of a procedure
+      at_proc : (i p : ℕ) (f : BlockProc) (ls : List AsmLine) (d d' : Data) (r : Run) (h : On i ls d r) (u : ProcUnit p f) (n : ℕ) (registers : List ℕ) → Leads n r (moved_to r registers (line_address u.unit 0)) → d'.mem ≡ d.mem → length registers ≡ 32 → ((j : ℕ) → j < 32 → slice_index registers j ≡ d'.regs j) → Goes n p (code p f) d' r
+      at_proc i p f ls d d' r h u n registers l e len same = record {
+        run = moved_to r registers (line_address u.unit 0);
+        leads = l;
+        on = record {
+          unit = u.unit;
+          line = 0;
+          rest = subst (λ xs. From xs 0 (code p f)) (sym u.lines) (here (code p f));
+          at = at_moved image r (line_address h.unit h.line) registers (line_address u.unit 0) h.at (len ∙ sym h.at.count);
+          like = like_moved r d d' registers (line_address u.unit 0) h.like e len same;
+          bytes = λ a. subst (λ (m : Bytes). m a < 256) (sym e) (h.bytes a);
+        };
+      }
+
+      one_target : IsTarget 1
+      one_target = (omega arith, omega arith)
+
+      call : (i p : ℕ) (f : BlockProc) (ls : List AsmLine) (d : Data) (r : Run) → On i (Call (proc_name p) ∷ ls) d r → IsProc q p f → Called q hs g On Addr Labelled 2 i ls p f d r
+      call i p f ls d r h ip =
+          let u = procs p f ip in
+          let back = line_address h.unit (h.line + 1) in
+          let rest = from_next h.unit.unit.lines h.line (Call (proc_name p)) ls h.rest in
+          let l = call_leads us os image made i h.unit h.line (proc_name p) (from_get h.unit.unit.lines h.line (Call (proc_name p)) ls h.rest) p u.unit u.named u.some r h.at in
+          let lt = (place_next i h.unit (h.line + 1) r d h.like h.at.has (from_le h.unit.unit.lines (h.line + 1) ls rest)) in
+          record {
+            address = back;
+            small = omega (arith, lt);
+            stands = record { unit = h.unit; line = h.line + 1; rest = rest; is = refl };
+            went = at_proc i p f (Call (proc_name p) ∷ ls) d (set d 1 back) r h u 2 (set_register r.state.registers 1 back) l refl (set_length r.state.registers 1 back ∙ h.like.count) (regs_set r.state.registers d.regs 1 back one_target h.like.count h.like.regs);
+          }
+
+      call_at : (i p : ℕ) (f : BlockProc) (ls : List AsmLine) (d : Data) (r : Run) → On i (Plain (M.Jalr 1 6 0) ∷ ls) d r → IsProc q p f → d.regs 6 < 2 ^ 64 → d.regs 6 ≡ g.procs p → Called q hs g On Addr Labelled 1 i ls p f d r
+      call_at i p f ls d r h ip lt6 e6 =
+          let u = procs p f ip in
+          let back = line_address h.unit (h.line + 1) in
+          let rest = from_next h.unit.unit.lines h.line (Plain (M.Jalr 1 6 0)) ls h.rest in
+          let to = line_address u.unit 0 in
+          let there : register r.state 6 ≡ to = h.like.regs 6 (omega arith) ∙ (e6 ∙ u.address (subst (λ v. v < 2 ^ 64) e6 lt6)) in
+          let whole = (are_in_code us os image made p u.unit 0 (omega arith)).0 in
+          let target : (register r.state 6 + 0) % 2 ^ 64 / 2 * 2 ≡ to = (let lo = subst (λ v. v < 2 ^ 64) (sym (h.like.regs 6 (omega arith))) lt6 in omega arith) in
+          let a = word i (M.Jalr 1 6 0) ls d r h in
+          let goes = jalr_turn r 1 6 0 to back a.0 a.1 target whole (next_line i (M.Jalr 1 6 0) ls d r h) in
+          let lt = (place_next i h.unit (h.line + 1) r d h.like h.at.has (from_le h.unit.unit.lines (h.line + 1) ls rest)) in
+          record {
+            address = back;
+            small = omega (arith, lt);
+            stands = record { unit = h.unit; line = h.line + 1; rest = rest; is = refl };
+            went = at_proc i p f (Plain (M.Jalr 1 6 0) ∷ ls) d (set d 1 back) r h u 1 (set_register r.state.registers 1 back) (leads_one r (set_register r.state.registers 1 back) to h.at.ready goes) refl (set_length r.state.registers 1 back ∙ h.like.count) (regs_set r.state.registers d.regs 1 back one_target h.like.count h.like.regs);
+          }
+
+      back : (i j : ℕ) (ls to : List AsmLine) (d : Data) (r : Run) → On i (Plain (M.Jalr 0 1 0) ∷ ls) d r → Addr j to (d.regs 1) → Goes 1 j to d r
+      back i j ls to d r h s =
+          let p = line_address s.unit s.line in
+          let there : register r.state 1 ≡ p = h.like.regs 1 (omega arith) ∙ sym s.is in
+          let le = from_le s.unit.unit.lines s.line to s.rest in
+          let whole = (are_in_code us os image made j s.unit s.line le).0 in
+          let lt = place_next j s.unit s.line r d h.like h.at.has le in
+          let target : (register r.state 1 + 0) % 2 ^ 64 / 2 * 2 ≡ p = omega arith in
+          let a = word i (M.Jalr 0 1 0) ls d r h in
+          let goes = jalr_turn r 0 1 0 p (line_address h.unit (h.line + 1)) a.0 a.1 target whole (next_line i (M.Jalr 0 1 0) ls d r h) in
+          record {
+            run = moved_to r r.state.registers p;
+            leads = leads_one r r.state.registers p h.at.ready goes;
+            on = record {
+              unit = s.unit;
+              line = s.line;
+              rest = s.rest;
+              at = at_moved image r (line_address h.unit h.line) r.state.registers p h.at refl;
+              like = like_moved r d d r.state.registers p h.like refl h.like.count h.like.regs;
+              bytes = h.bytes;
+            };
+          }
+
+      -- an address in a register
+      address_set : (i rd : ℕ) (name : List ℕ) (offset : ℕ) (ls : List AsmLine) (d : Data) (r : Run) (h : On i (Address rd name offset ∷ ls) d r) (v : ℕ) → IsTarget rd → Leads 2 r (moved_to r (set_register r.state.registers rd v) (line_address h.unit (h.line + 1))) → Goes 2 i ls (set d rd v) r
+      address_set i rd name offset ls d r h v t l =
+          moved_on i (Address rd name offset ∷ ls) d (set d rd v) r h 2 (h.line + 1) (set_register r.state.registers rd v) ls l (from_next h.unit.unit.lines h.line (Address rd name offset) ls h.rest) refl
+              (set_length r.state.registers rd v ∙ h.like.count) (regs_set r.state.registers d.regs rd v t h.like.count h.like.regs)
+
+      first_place : (p : ℕ) (f : BlockProc) (u : ProcUnit p f) → name_address u.unit 0 ≡ line_address u.unit 0
+      first_place p f u =
+          let e = offset_code us os image made p u.unit 0 u.some in
+          let z = u.unit.assembled.begins in
+          omega (arith, e, z)
+
+      proc_address : (i p rd : ℕ) (f : BlockProc) (ls : List AsmLine) (d : Data) (r : Run) → On i (Address rd (proc_name p) 0 ∷ ls) d r → IsTarget rd → IsProc q p f → g.procs p < 2 ^ 64 → Goes 2 i ls (set d rd (g.procs p)) r
+      proc_address i p rd f ls d r h t ip lt =
+          let u = procs p f ip in
+          let l = address_leads us os image made i h.unit h.line rd (proc_name p) 0 (from_get h.unit.unit.lines h.line (Address rd (proc_name p) 0) ls h.rest) p u.unit u.named r h.at in
+          let e : name_address u.unit 0 ≡ g.procs p = first_place p f u ∙ sym (u.address lt) in
+          address_set i rd (proc_name p) 0 ls d r h (g.procs p) t (subst (λ v. Leads 2 r (moved_to r (set_register r.state.registers rd v) (line_address h.unit (h.line + 1)))) e l)
+
+      image_address : (i n rd : ℕ) (ls : List AsmLine) (d : Data) (r : Run) → On i (Address rd image_name (image_place n) ∷ ls) d r → IsTarget rd → n ≤ length q.image → Goes 2 i ls (set d rd (g.image + n)) r
+      image_address i n rd ls d r h t le =
+          let u = with_image in
+          let l = address_leads us os image made i h.unit h.line rd image_name (image_place n) (from_get h.unit.unit.lines h.line (Address rd image_name (image_place n)) ls h.rest) (length q.procs) u.unit u.named r h.at in
+          address_set i rd image_name (image_place n) ls d r h (g.image + n) t (subst (λ v. Leads 2 r (moved_to r (set_register r.state.registers rd v) (line_address h.unit (h.line + 1)))) (u.address n le) l)
+
+      pub laws : g.image ≡ low → heap_end (length q.image) g ≡ high → Laws q hs g On Addr Labelled
+      laws el eh = record {
+        ready = λ i ls d r h. h.at.ready;
+        plain = λ i x ls d r h sf. plain i x ls d r h (subst (λ b. Safe low b x d) eh (subst (λ a. Safe a (heap_end (length q.image) g) x d) el sf));
+        label = λ i b ls d r h. label i b ls d r h;
+        jump = λ i b ls to d r h lb. jump i b ls to d r h lb;
+        taken = λ i a b ls to d r h la z n lb. taken i a b ls to d r h la z n lb;
+        passed = λ i a b ls d r h la z e. passed i a b ls d r h la z e;
+        less = λ i b ls to d r h lt lb. less i b ls to d r h lt lb;
+        not_less = λ i b ls d r h le. not_less i b ls d r h le;
+        call = λ i p f ls d r h ip. call i p f ls d r h ip;
+        call_at = λ i p f ls d r h ip lt e. call_at i p f ls d r h ip lt e;
+        back = λ i j ls to d r h s. back i j ls to d r h s;
+        proc_address = λ i p rd f ls d r h t ip lt. proc_address i p rd f ls d r h t ip lt;
+        image_address = λ i n rd ls d r h t le. image_address i n rd ls d r h t le;
+        takes = λ i b bs ls d r h e el. takes i b bs ls d r h e el;
+        takes_none = λ i ls d r h e el. takes_none i ls d r h e el;
+        gives = λ i ls d r h e. gives i ls d r h e;
+        stops = λ i ls d r h e. stops i ls d r h e;
+        limits = λ i n ls d r h e en le. limits i n ls d r h e en le;
+      }
