@@ -19,3 +19,5 @@ pub mod Whole
 pub mod MachineMemory
 pub mod Bridge
 pub mod Keeps
+pub mod Layouts
+pub mod Labels
