@@ -16,3 +16,8 @@ pub mod Returns
 pub mod Args
 pub mod Calls
 pub mod Whole
+pub mod MachineMemory
+pub mod Bridge
+pub mod Keeps
+pub mod Layouts
+pub mod Labels
