@@ -2,5 +2,12 @@
 #![tactic(auto)]
 
 mod frame;
+mod homes;
+mod insns;
 mod machine;
+mod names;
+mod procedures;
+mod units;
 mod writer;
+
+pub use units::emit;
