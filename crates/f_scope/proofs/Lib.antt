@@ -1,0 +1,4 @@
+pub mod Chains
+pub mod Lookups
+pub mod Scans
+pub mod Units

@@ -1,0 +1,5 @@
+pub mod Rows
+pub mod Tables
+pub mod Own
+pub mod UnitNames
+pub mod BuiltIn

@@ -1,0 +1,14 @@
+//! The scopes of a Fortran program: in which scope each name stands, and what each scope declares.
+#![tactic(auto)]
+
+mod built_in;
+mod own;
+mod placement;
+mod table;
+mod unit_names;
+
+pub use built_in::before_program;
+pub use own::own_tables;
+pub use placement::{Placed, Placement, ScopeRow, place_items};
+pub use table::{Entry, Table};
+pub use unit_names::collect_unit_names;
