@@ -53,7 +53,7 @@ file_leaves (Declaring (Module name)) e = cc
 file_leaves (Declaring (Head ps f name d ss)) e = cc
 file_leaves (Declaring _) e = cc
 
-file_enters : (s : Statement) (k inner : State) → role File s ≡ enters k inner → k ≡ File
+pub file_enters : (s : Statement) (k inner : State) → role File s ≡ enters k inner → k ≡ File
 unfolding role
 file_enters (Executable l) k inner e = absurd (cc e)
 file_enters (Declaring (Program name)) k inner e = cc
@@ -64,12 +64,12 @@ file_enters (Declaring _) k inner e = absurd (cc e)
 -- ---- what has been begun
 
 -- These statements have led here: to trees in the file, or to trees inside something that was entered.
-abbrev Begun : State → ℕ → Open → List Statement → Type 0
+abbrev pub Begun : State → ℕ → Open → List Statement → Type 0
 Begun k d [] ss = (ts : Trees) × (k ≡ File) × (d ≡ 0) × StandAll 0 File ts File × (ss ≡ spell_trees ts [])
 Begun k d (o ∷ rest) ss = (before : List Statement) × (outer : State) × (head : Statement) × (inner : State) × (ts : Trees)
     × Begun outer o.1 rest before × (role outer head ≡ enters o.0 inner) × (d ≡ o.1 + counts inner) × (d ≤ deepest) × StandAll d inner ts k × (ss ≡ before ++ head ∷ spell_trees ts [])
 
-abbrev BegunAt : Open → List Statement → Type 0
+abbrev pub BegunAt : Open → List Statement → Type 0
 BegunAt [] ss = ⊥
 BegunAt (o ∷ rest) ss = Begun o.0 o.1 rest ss
 
@@ -98,10 +98,10 @@ add_tree [] k d after t ss b f =
 add_tree (o ∷ rest) k d after t ss b f =
     (b.0, b.1, b.2, b.3, and_last b.4 t, b.5, b.6, b.7, b.8, last_stands b.4 t d b.3 k after b.9 f, extended b.0 b.2 b.4 t ss b.10)
 
-ok_is : (o p : Open) → let a : Result Open Broken = Ok o in let b : Result Open Broken = Ok p in a ≡ b → o ≡ p
+pub ok_is : (o p : Open) → let a : Result Open Broken = Ok o in let b : Result Open Broken = Ok p in a ≡ b → o ≡ p
 ok_is o p e = cc
 
-not_ok : (b : Broken) (p : Open) → let a : Result Open Broken = Err b in let c : Result Open Broken = Ok p in a ≡ c → ⊥
+pub not_ok : (b : Broken) (p : Open) → let a : Result Open Broken = Err b in let c : Result Open Broken = Ok p in a ≡ c → ⊥
 not_ok b p e = cc
 
 left_begun : (k : State) (d : ℕ) (rest : Open) (ss : List Statement) (s : Statement) → Begun k d rest ss → role k s ≡ leaves → BegunAt rest (ss ++ s ∷ [])
@@ -128,7 +128,7 @@ step_begun k d rest ss s p b e = pick (role k s) refl
     pick leaves i = subst (λ (q : Open). BegunAt q (ss ++ s ∷ [])) (ok_is rest p (sym (step_by k d rest s leaves i) ∙ e)) (left_begun k d rest ss s b i)
     pick none i = absurd (not_ok NoPlace p (sym (step_by k d rest s none i) ∙ e))
 
-run_begun : (ss : List Statement) (o p : Open) (before : List Statement) → BegunAt o before → run o ss ≡ Ok p → BegunAt p (before ++ ss)
+pub run_begun : (ss : List Statement) (o p : Open) (before : List Statement) → BegunAt o before → run o ss ≡ Ok p → BegunAt p (before ++ ss)
 unfolding run
 run_begun [] o p before b e = subst (λ (l : List Statement). BegunAt p l) (sym (append-nil before)) (subst (λ (q : Open). BegunAt q before) (ok_is o p e) b)
 run_begun (s ∷ ss) [] p before b e = absurd b
@@ -137,6 +137,9 @@ run_begun (s ∷ ss) (o ∷ rest) p before b e = pick (λ q c. run_begun ss q p 
     pick : ((q : Open) → BegunAt q (before ++ s ∷ []) → run q ss ≡ Ok p → BegunAt p ((before ++ s ∷ []) ++ ss)) → (r : Result Open Broken) → step (o ∷ rest) s ≡ r → and_on r (λ q. run q ss) ≡ Ok p → BegunAt p (before ++ s ∷ ss)
     pick on (Ok q) i c = subst (λ (l : List Statement). BegunAt p l) (append_assoc before (s ∷ []) ss) (on q (step_begun o.0 o.1 rest before s q b i) c)
     pick on (Err x) i c = absurd (not_ok x p c)
+
+pub at_start : BegunAt at_file []
+at_start = (no_trees, refl, refl, refl, refl)
 
 pub placed_is_file : (ss : List Statement) → run at_file ss ≡ Ok at_file → IsFile ss
 placed_is_file ss e =
