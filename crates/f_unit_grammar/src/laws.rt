@@ -1,0 +1,31 @@
+//! Laws of files.
+
+ghost use Rattle.std.specs.Prelude.{◌≡◌, List, ◌∷◌, ◌++◌, Ok, Err};
+ghost use Rattle.f_statement_grammar.specs.Statements.{Statement};
+ghost use Rattle.f_unit_grammar.specs.Units.{IsFile};
+ghost use Rattle.f_unit_grammar.specs.Placing.{Open, Broken, step, run, at_file, Begins};
+
+/// Each statement of a file has its place, and at the end of the file nothing is open.
+pub fn a_file_is_placed()
+    ensures { (ss : List Statement) → IsFile ss → run at_file ss ≡ Ok at_file }
+{}
+
+/// Statements that have their places, with nothing open at their end, are a file.
+pub fn what_is_placed_is_a_file()
+    ensures { (ss : List Statement) → run at_file ss ≡ Ok at_file → IsFile ss }
+{}
+
+/// Where a statement has no place behind others, or nests too deep there, no file begins so, whatever follows.
+pub fn what_has_no_place_begins_no_file()
+    ensures { (before : List Statement) (s : Statement) (o : Open) (b : Broken) → run at_file before ≡ Ok o → step o s ≡ Err b → (more : List Statement) → IsFile (before ++ s ∷ more) → ⊥ }
+{}
+
+/// The statements of a file are those of no other trees.
+pub fn one_file()
+    ensures { (ss : List Statement) (a b : IsFile ss) → a.trees ≡ b.trees }
+{}
+
+/// Statements that have their places begin a file. So the first statement that has none behind others is where a file is broken first.
+pub fn what_is_placed_begins_a_file()
+    ensures { (before : List Statement) (o : Open) → run at_file before ≡ Ok o → Begins before }
+{}
