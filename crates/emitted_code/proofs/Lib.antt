@@ -21,3 +21,4 @@ pub mod Bridge
 pub mod Keeps
 pub mod Layouts
 pub mod Labels
+pub mod Program

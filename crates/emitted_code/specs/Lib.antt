@@ -3,4 +3,5 @@ pub mod Names
 pub mod Frames
 pub mod Code
 pub mod Room
+pub mod Placed
 pub mod Units
