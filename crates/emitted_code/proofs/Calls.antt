@@ -39,6 +39,7 @@ use Rattle.emitted_code.specs.Names.{proc_name}
 use Rattle.emitted_code.specs.Frames.{Layout, home_of, save_at, saved_of, is_charged, frame_size, need, words_of, most_words, words_of_blocks}
 use Rattle.emitted_code.specs.Code.{read, pass, receive, take_results, save, rest_code, blocks_code, past_code, enter_code, proc_lines, limit_code}
 use Rattle.emitted_code.specs.Units.{first_size}
+use Rattle.emitted_code.specs.Placed.{AllBytes}
 use Rattle.emitted_code.specs.Room.{IsProc, HasInsn, IsRoutine, HasRoom}
 use Rattle.emitted_code.proofs.Data.{Data, set, act, acts, acts_append, AreSafe, safe_append, Gets, gets_one, gets_append, Small, poke_small, Compared, same, other, compared}
 use Rattle.emitted_code.proofs.Constants.{gets_number, number_few}
@@ -47,8 +48,8 @@ use Rattle.emitted_code.proofs.Values.{gets_stays, seven, five, six, free_target
 use Rattle.emitted_code.proofs.Saves.{IsSaved, saved_range, Saved, saves, save_few}
 use Rattle.emitted_code.proofs.Args.{arg_at, arg_same, pass_few, receive_few, Passed, passes, homes_kept, Received, receives}
 use Rattle.emitted_code.proofs.Returns.{saved_few}
-use Rattle.emitted_code.proofs.Laws.{Went, went_then, goes, Jumped, Called}
-use Rattle.emitted_code.proofs.States.{Told, told_after, Given, L, at_places, Level_of, Related, going, Again, Now, proceeds, goes_wrong, LimitAt, AllBytes}
+use Rattle.emitted_code.proofs.LineLaws.{Went, went_then, goes, Jumped, Called}
+use Rattle.emitted_code.proofs.States.{Told, told_after, Given, L, at_places, Level_of, Related, going, Again, Now, proceeds, goes_wrong, LimitAt}
 use Rattle.emitted_code.proofs.Simple.{Rel, Lay, run_of, home_is, home_low, has_insn, read_few}
 use Rattle.emitted_code.proofs.Ends.{ends_limited}
 

@@ -46,7 +46,7 @@ use Rattle.emitted_code.specs.Room.{IsProc}
 use Rattle.emitted_code.proofs.Data.{Data, set, act, Safe, IsTarget}
 use Rattle.emitted_code.proofs.MachineMemory.{IsMemory, stored_is}
 use Rattle.emitted_code.proofs.Bridge.{From, here, later, from_get, from_next, Like, regs_set, Does, sets, loads, stores, does}
-use Rattle.emitted_code.proofs.Laws.{Went, Jumped, Called, Turned, Laws}
+use Rattle.emitted_code.proofs.LineLaws.{Went, Jumped, Called, Turned, Laws}
 
 from_le : (xs : List AsmLine) (k : ℕ) (ls : List AsmLine) → From xs k ls → k ≤ length xs
 from_le xs k ls (here w) = omega arith

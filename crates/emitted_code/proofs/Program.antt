@@ -109,10 +109,10 @@ params_most (z ∷ fs) zero f e = (let u : z ≡ f = cc in let k : z.params ≡ 
 params_most (z ∷ fs) (suc p) f e = (let k = params_most fs p f e in let m = le-max_right z.params (most_params fs) in omega arith)
 
 module _ (q : BlockProgram) (hs : List Assignment) (os : List ObjUnit) (image : Image) (made : AreLinked (program_units q hs) os image) where
-  abbrev us : List AsmUnit
+  abbrev pub us : List AsmUnit
   us = program_units q hs
 
-  abbrev count : ℕ
+  abbrev pub count : ℕ
   count = length q.procs
 
   units : length us ≡ count + 1
@@ -142,10 +142,10 @@ module _ (q : BlockProgram) (hs : List Assignment) (os : List ObjUnit) (image : 
         by true n = absurd (n refl)
         by false n = refl
 
-    proc_place : (p : ℕ) → is_alone q p ≡ false → (placed q os limits).procs p ≡ base + length (codes (take p os))
+    pub proc_place : (p : ℕ) → is_alone q p ≡ false → (placed q os limits).procs p ≡ base + length (codes (take p os))
     proc_place p e = ap (λ b. cond b (2 ^ 64) (base + length (codes (take p os)))) e
 
-    alone_place : (p : ℕ) → is_alone q p ≡ true → (placed q os limits).procs p ≡ 2 ^ 64
+    pub alone_place : (p : ℕ) → is_alone q p ≡ true → (placed q os limits).procs p ≡ 2 ^ 64
     alone_place p e = ap (λ b. cond b (2 ^ 64) (base + length (codes (take p os)))) e
 
     small_place : (p : ℕ) → p < length us → base + length (codes (take p os)) < 2 ^ 64
@@ -156,13 +156,13 @@ module _ (q : BlockProgram) (hs : List Assignment) (os : List ObjUnit) (image : 
         let c = code_len_small us os image made in
         omega arith
 
-    image_at : UnitAt us os count
+    pub image_at : UnitAt us os count
     image_at = unit_at us os made.assembled count (let n = units in omega arith)
 
-    image_is : image_at.unit ≡ image_unit q
+    pub image_is : image_at.unit ≡ image_unit q
     image_is = some_unit image_at.unit (image_unit q) (sym image_at.is_unit ∙ unit_image)
 
-    image_code : length image_at.object.code ≡ 20
+    pub image_code : length image_at.object.code ≡ 20
     image_code = start_size q image_at.unit image_at.object image_is image_at.assembled
 
     empty : (k : ℕ) (o : ObjUnit) → k < count → slice_get os k ≡ Some o → o.image ≡ []
@@ -203,6 +203,9 @@ module _ (q : BlockProgram) (hs : List Assignment) (os : List ObjUnit) (image : 
         let h = ranges.heap.most in
         omega arith
 
+    pub proc_small : (p : ℕ) (f : BlockProc) → IsProc q p f → base + length (codes (take p os)) < 2 ^ 64
+    proc_small p f ip = (let lt = slice_get_within q.procs p f ip in let n = units in small_place p (omega arith))
+
     -- a procedure's unit
     pub proc_unit_at : (p : ℕ) (f : BlockProc) → IsProc q p f → ProcUnit us os image made low' high' bottom' code_end' bounded' q hs (placed q os limits) p f
     proc_unit_at p f ip =
@@ -225,7 +228,7 @@ module _ (q : BlockProgram) (hs : List Assignment) (os : List ObjUnit) (image : 
           address = λ h. proc_place p (not_alone p (λ al. (let z = alone_place p al in omega arith))) ∙ sym (begins_at p w);
         }
 
-    image_unit_at : ImageUnit us os image made low' high' bottom' code_end' bounded' q hs (placed q os limits)
+    pub image_unit_at : ImageUnit us os image made low' high' bottom' code_end' bounded' q hs (placed q os limits)
     image_unit_at = record {
       unit = image_at;
       named = ap (λ (u : AsmUnit). u.name) image_is;

@@ -39,7 +39,7 @@ use Rattle.emitted_code.proofs.Constants.{gets_number, number_few}
 use Rattle.emitted_code.proofs.Relate.{IsKept, In, at_home, cells, Laid, cell_home, kept_range, IsFree, Stays, at_alike, Frame, frame_moved, homes_same, sizes, total, Waits, Suspended, Body, spans, top, floor}
 use Rattle.emitted_code.proofs.Values.{set_low, IsApart, kept_apart, Wrote, cells_written, gets_stays, apart_seven, five, free_target, reads, writes, home_small, scratched, scratched_at, body_written}
 use Rattle.emitted_code.proofs.Saves.{IsSaved, saved_range, Restored, restores, restore_few}
-use Rattle.emitted_code.proofs.Laws.{Went, went_then, goes}
+use Rattle.emitted_code.proofs.LineLaws.{Went, went_then, goes}
 use Rattle.emitted_code.proofs.States.{Told, told_after, Given, L, at_places, Level_of, Related, going, Again, Now, proceeds, goes_wrong}
 use Rattle.emitted_code.proofs.Simple.{Rel, Lay, run_of, home_is, home_low, read_few, write_few}
 

@@ -40,7 +40,7 @@ use Rattle.emitted_code.proofs.Relate.{at_home, cells, Laid, cell_home, Frame, f
 use Rattle.emitted_code.proofs.Values.{use_low, set_low, IsApart, kept_apart, Wrote, result_target, operand_low, apart_seven, fetched_stays, five, free_target, reads, fetches, home_small, scratched, scratched_at, reaches, stays_of}
 use Rattle.emitted_code.proofs.Operands.{Scratches, Computes, gets_computes, computes_last, fetched_scratches, settles, Two, fetches_two, apart_not}
 use Rattle.emitted_code.proofs.Access.{Owned, owned, owned_reach, owned_bytes, owned_apart, load_done, store_done, put_same}
-use Rattle.emitted_code.proofs.Laws.{Went, went_then, goes}
+use Rattle.emitted_code.proofs.LineLaws.{Went, went_then, goes}
 use Rattle.emitted_code.proofs.States.{Told, told_after, Given, L, at_places, Body_of, Related, going, Again, Now, proceeds, goes_wrong, has_set, some}
 
 mid_get : (ran : List BlockInsn) (y : BlockInsn) (rest : List BlockInsn) → slice_get (ran ++ y ∷ rest) (length ran) ≡ Some y

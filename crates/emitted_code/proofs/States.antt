@@ -30,15 +30,12 @@ use Rattle.assembled_run.specs.Machine.{Leads, IsQuiet}
 use Rattle.emitted_code.specs.Frames.{Layout, home_of, is_charged}
 use Rattle.emitted_code.specs.Code.{rest_code, limit_code}
 use Rattle.emitted_code.specs.Room.{IsProc, CanEmit}
+use Rattle.emitted_code.specs.Placed.{AllBytes}
 use Rattle.emitted_code.proofs.Data.{Data, Small}
-use Rattle.emitted_code.proofs.Laws.{Laws, Went}
+use Rattle.emitted_code.proofs.LineLaws.{Laws, Went}
 use Rattle.emitted_code.proofs.Steps.{shown, quietly, stepped, ends_so}
 use Rattle.emitted_code.proofs.Relate.{cells, Laid, at_alike, total, lay, Level, Body}
 use Rattle.emitted_code.proofs.Values.{Wrote, cells_written, body_written, set_low}
-
-abbrev pub AllBytes : List ℕ → Type 0
-AllBytes [] = Unit {0}
-AllBytes (b ∷ bs) = (b < 256) × AllBytes bs
 
 -- the run has taken and given what the world says, and bytes are left
 pub record Told (r : Run) (w : World) : Type 0 where

@@ -35,7 +35,7 @@ use Rattle.emitted_code.specs.Room.{IsProc, HasRoom}
 use Rattle.emitted_code.proofs.Data.{Data, set, acts, acts_append, AreSafe, safe_append, Gets, Small, poke_small}
 use Rattle.emitted_code.proofs.Constants.{pair_whole, gets_pair}
 use Rattle.emitted_code.proofs.Relate.{IsOwn}
-use Rattle.emitted_code.proofs.Laws.{Went, goes}
+use Rattle.emitted_code.proofs.LineLaws.{Went, goes}
 use Rattle.emitted_code.proofs.Args.{arg_at}
 use Rattle.emitted_code.proofs.Steps.{shown}
 use Rattle.emitted_code.proofs.States.{Told, told_after, seen_now, Given, at_places, going, Related, Again, Now, goes_wrong}

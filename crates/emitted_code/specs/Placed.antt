@@ -17,6 +17,7 @@ use Rattle.block_homes.specs.declared.homes.Assignment.{Assignment}
 use Rattle.emitted_code.specs.Frames.{is_charged}
 use Rattle.emitted_code.specs.Units.{program_units}
 use Rattle.emitted_code.specs.Room.{CanEmit}
+use Rattle.emitted_code.specs.Room.{CanEmit}
 
 -- an entry that is charged nothing: nothing calls it, not even at an address
 abbrev pub is_free : Option BlockProc → Bool
@@ -46,3 +47,13 @@ pace q = 400 + 40 * most_params q.procs
 abbrev pub AllBytes : List ℕ → Type 0
 AllBytes [] = Unit {0}
 AllBytes (b ∷ bs) = (b < 256) × AllBytes bs
+
+-- the image has the program's bytes, each address in its place
+abbrev pub HoldsImage : BlockProgram → List ObjUnit → Image → Limits → Type 0
+HoldsImage q os image limits = (j : ℕ) → j < length q.image → slice_index image.bytes (code_size os + j) ≡ first_bytes (placed q os limits) q.image q.fixes (base + code_size os + j)
+
+-- The image of a program's units follows its blocks, wherever its parts came to lie: for all limits in range and all inputs, within `pace` instructions for each step.
+-- Arguments and results lie where the psABI says, frames take their charges, and a call that would pass the limit on frames ends the run at it.
+abbrev pub ImagesFollowBlocks : Type 0
+ImagesFollowBlocks = (q : BlockProgram) (assignments : List Assignment) (os : List ObjUnit) (image : Image) → CanEmit q assignments → AreLinked (program_units q assignments) os image → AllBytes image.bytes
+    → (limits : Limits) → AreLimits limits → HoldsImage q os image limits → (input : List ℕ) → AllBytes input → Follows (pace q) (image_behaviour image limits input) (blocks q (placed q os limits) input)
