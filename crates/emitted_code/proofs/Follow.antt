@@ -51,7 +51,7 @@ use Rattle.emitted_code.proofs.States.{Given, BlockAt, LimitAt}
 use Rattle.emitted_code.proofs.Whole.{Begun, image_follows}
 use Rattle.emitted_code.proofs.Program as Q
 
-bytes_index : (bs : List ℕ) (i : ℕ) → AllBytes bs → slice_index bs i < 256
+pub bytes_index : (bs : List ℕ) (i : ℕ) → AllBytes bs → slice_index bs i < 256
 bytes_index [] i h = omega arith
 bytes_index (b ∷ bs) zero h = h.0
 bytes_index (b ∷ bs) (suc i) h = bytes_index bs i h.1
@@ -103,12 +103,12 @@ fixes_in : (n : ℕ) (fs : List Fix) → ((k : ℕ) (f : Fix) → slice_get fs k
 fixes_in n [] h = tt
 fixes_in n (f ∷ fs) h = (h 0 f refl, fixes_in n fs (λ k x e. h (suc k) x e))
 
-mapped_get : (fs : List Fix) (k : ℕ) (f : Fix) → slice_get fs k ≡ Some f → slice_get (map named_fix fs) k ≡ Some (named_fix f)
+pub mapped_get : (fs : List Fix) (k : ℕ) (f : Fix) → slice_get fs k ≡ Some f → slice_get (map named_fix fs) k ≡ Some (named_fix f)
 mapped_get [] k f e = absurd (cc)
 mapped_get (x ∷ fs) zero f e = (let u : x ≡ f = cc in ap (λ y. Some (named_fix y)) u)
 mapped_get (x ∷ fs) (suc k) f e = mapped_get fs k f e
 
-named_at : (f : Fix) → (named_fix f).at ≡ f.at
+pub named_at : (f : Fix) → (named_fix f).at ≡ f.at
 named_at f = by f.target
   where
     by : (t : Target) → (target_fix f.at t).at ≡ f.at

@@ -23,3 +23,4 @@ pub mod Layouts
 pub mod Labels
 pub mod Program
 pub mod Follow
+pub mod Held

@@ -71,7 +71,7 @@ images_last (x ∷ os) (suc n) o len h e =
     let z = h 0 x (omega arith) refl in
     (ap (λ l. l ++ images os) z ∙ r.0, ap (λ l. l ++ images (take n os)) z ∙ r.1)
 
-none_past : (ps : List BlockProc) (i : ℕ) → slice_get ps i ≡ None → length ps ≤ i
+pub none_past : (ps : List BlockProc) (i : ℕ) → slice_get ps i ≡ None → length ps ≤ i
 none_past [] i e = omega arith
 none_past (p ∷ ps) zero e = absurd (cc)
 none_past (p ∷ ps) (suc i) e = (let h = none_past ps i e in omega arith)
@@ -115,7 +115,7 @@ module _ (q : BlockProgram) (hs : List Assignment) (os : List ObjUnit) (image : 
   abbrev pub count : ℕ
   count = length q.procs
 
-  units : length us ≡ count + 1
+  pub units : length us ≡ count + 1
   units = omega (arith, length-append (proc_units 0 q.procs hs) (image_unit q ∷ []), units_length 0 q.procs hs)
 
   objects : length os ≡ count + 1
@@ -124,7 +124,7 @@ module _ (q : BlockProgram) (hs : List Assignment) (os : List ObjUnit) (image : 
   pub unit_proc : (p : ℕ) (f : BlockProc) → IsProc q p f → slice_get us p ≡ Some (proc_unit p f (slice_get hs p))
   unit_proc p f ip = let e : 0 + p ≡ p = omega arith in get_left (proc_units 0 q.procs hs) (image_unit q ∷ []) p _ (units_get 0 q.procs hs p f ip) ∙ ap (λ n. Some (proc_unit n f (slice_get hs p))) e
 
-  unit_image : slice_get us count ≡ Some (image_unit q)
+  pub unit_image : slice_get us count ≡ Some (image_unit q)
   unit_image = ap (λ n. slice_get us n) (sym (units_length 0 q.procs hs)) ∙ get_last (proc_units 0 q.procs hs) (image_unit q)
 
   -- where a unit begins
@@ -172,10 +172,10 @@ module _ (q : BlockProgram) (hs : List Assignment) (os : List ObjUnit) (image : 
         go None ez = absurd (let h = none_past q.procs k ez in omega arith)
         go (Some f) ip = (made.assembled.each k (proc_unit k f (slice_get hs k)) o (unit_proc k f ip) e).image
 
-    all_images : (images os ≡ image_at.object.image) × (images (take count os) ≡ [])
+    pub all_images : (images os ≡ image_at.object.image) × (images (take count os) ≡ [])
     all_images = images_last os count image_at.object objects empty image_at.is_object
 
-    image_bytes_are : image_at.object.image ≡ q.image
+    pub image_bytes_are : image_at.object.image ≡ q.image
     image_bytes_are = image_at.assembled.image ∙ ap (λ (u : AsmUnit). u.image) image_is
 
     -- the bytes of the linked image

@@ -56,4 +56,4 @@ HoldsImage q os image limits = (j : ℕ) → j < length q.image → slice_index 
 -- Arguments and results lie where the psABI says, frames take their charges, and a call that would pass the limit on frames ends the run at it.
 abbrev pub ImagesFollowBlocks : Type 0
 ImagesFollowBlocks = (q : BlockProgram) (assignments : List Assignment) (os : List ObjUnit) (image : Image) → CanEmit q assignments → AreLinked (program_units q assignments) os image → AllBytes image.bytes
-    → (limits : Limits) → AreLimits limits → HoldsImage q os image limits → (input : List ℕ) → AllBytes input → Follows (pace q) (image_behaviour image limits input) (blocks q (placed q os limits) input)
+    → (limits : Limits) → AreLimits limits → (input : List ℕ) → AllBytes input → Follows (pace q) (image_behaviour image limits input) (blocks q (placed q os limits) input)
