@@ -1,6 +1,6 @@
 -- The image of a program follows its blocks.
-use Rattle.std.proofs.Common.{◌≡◌, ℕ, zero, suc, ◌+◌, ◌-◌, ◌*◌, ◌/◌, ◌%◌, ◌^◌, ◌<◌, ◌≤◌, ◌⊎◌, inl, inr, Bool, true, false, cond, List, [], ◌∷◌, ◌++◌, length, map, take, Option, Some, None, refl, sym, ap, ◌∙◌, subst, arith, length-append}
-use Rattle.std.specs.Prelude.{slice_get, slice_index, nat_eq, nat_lt, nat_le, not, ◌&&◌, replicate, min}
+use Rattle.std.proofs.Common.{◌≡◌, ℕ, zero, suc, ◌+◌, ◌-◌, ◌^◌, ◌<◌, ◌≤◌, ◌⊎◌, inl, inr, Bool, true, false, cond, List, [], ◌∷◌, ◌++◌, length, map, Some, refl, sym, ap, ◌∙◌, subst, arith, length-append}
+use Rattle.std.specs.Prelude.{slice_get, slice_index, nat_eq, nat_lt, nat_le, not, ◌&&◌, replicate}
 use Rattle.std.proofs.lemmas.Bool.{cases_lt}
 use Rattle.std.proofs.lemmas.Bool.Decides.{nat_tests}
 use Rattle.std.proofs.lemmas.List.{length-replicate, get_or_append_left}
@@ -10,27 +10,23 @@ use Rattle.jf_base.specs.declared.place.Limits.{Limits}
 use Rattle.jf_base.specs.Limits.{AreLimits}
 use Rattle.program_image.specs.declared.Image.{Image}
 use Rattle.rv_assemble.specs.declared.unit.AsmLine.{AsmLine}
-use Rattle.rv_assemble.specs.declared.unit.AsmLine.TheVariants.{Label}
 use Rattle.rv_assemble.specs.declared.unit.AsmUnit.{AsmUnit}
 use Rattle.rv_assemble.specs.declared.object.ObjUnit.{ObjUnit}
-use Rattle.linker.specs.Layout.{codes, code_size}
+use Rattle.linker.specs.Layout.{code_size}
 use Rattle.linker.specs.Linked.{base}
 use Rattle.rv_machine.specs.Loaded as V
 use Rattle.rv_machine.specs.Loaded.{loaded, first_registers, memory_size}
 use Rattle.rv_machine.specs.Exec.{Run, start}
 use Rattle.image_run.specs.Behaviour.{image_behaviour}
-use Rattle.assembled_run.specs.Program.{AreLinked, UnitAt, line_address}
+use Rattle.assembled_run.specs.Program.{AreLinked, UnitAt}
 use Rattle.assembled_run.proofs.Laws as A
 use Rattle.flat_ir.specs.declared.program.Fix.{Fix}
 use Rattle.flat_ir.specs.declared.program.Target.{Target}
 use Rattle.flat_ir.specs.declared.program.Target.TheVariants as T
 use Rattle.flat_ir.specs.Bytes.{Bytes, put}
-use Rattle.flat_ir.specs.Ranges.{AreBytes}
 use Rattle.flat_ir.specs.Placement as P
 use Rattle.flat_ir.specs.Placement.{Placement, heap_end, address_of, fixed, image_bytes, first_bytes}
-use Rattle.flat_ir.specs.Flat.{starting}
 use Rattle.flat_ir.proofs.Framing.{put_apart}
-use Rattle.flatten.specs.declared.blocks.Block.{Block}
 use Rattle.flatten.specs.declared.blocks.BlockProc.{BlockProc}
 use Rattle.flatten.specs.declared.blocks.BlockProgram.{BlockProgram}
 use Rattle.flatten.specs.Blocks.{blocks}
@@ -38,16 +34,16 @@ use Rattle.block_homes.specs.declared.homes.Assignment.{Assignment}
 use Rattle.block_homes.specs.Held.{homes_in}
 use Rattle.emitted_code.specs.Frames.{Layout, layout_of, is_charged}
 use Rattle.emitted_code.specs.Code.{rest_code, limit_code, proc_lines}
-use Rattle.emitted_code.specs.Units.{program_units, proc_unit, image_unit, target_fix, named_fix, start_lines, first_size}
+use Rattle.emitted_code.specs.Units.{program_units, proc_unit, target_fix, named_fix, start_lines, first_size}
 use Rattle.emitted_code.specs.Room.{IsProc, CanEmit}
-use Rattle.emitted_code.specs.Placed.{is_free, is_alone, placed, most_params, pace, AllBytes, HoldsImage}
-use Rattle.emitted_code.proofs.Data.{Data, Small, Compared, same, other, compared}
-use Rattle.emitted_code.proofs.Bridge.{From, here, Like}
+use Rattle.emitted_code.specs.Placed.{is_free, is_alone, placed, pace, AllBytes, HoldsImage}
+use Rattle.emitted_code.proofs.Data.{Data}
+use Rattle.emitted_code.proofs.Bridge.{From, here}
 use Rattle.emitted_code.proofs.Keeps as K
-use Rattle.emitted_code.proofs.Labels.{Behind, behind, tail_at, Stood, all_stood}
+use Rattle.emitted_code.proofs.Labels.{behind, tail_at, Stood, all_stood}
 use Rattle.emitted_code.proofs.Layouts.{laid}
 use Rattle.emitted_code.proofs.Relate.{IsOwn}
-use Rattle.emitted_code.proofs.States.{Given, BlockAt, LimitAt}
+use Rattle.emitted_code.proofs.States.{Given}
 use Rattle.emitted_code.proofs.Whole.{Begun, image_follows}
 use Rattle.emitted_code.proofs.Program as Q
 

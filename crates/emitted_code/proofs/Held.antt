@@ -1,5 +1,5 @@
 -- The bytes of a program's image, linked.
-use Rattle.std.proofs.Common.{◌≡◌, ◌≢◌, ℕ, zero, suc, ◌+◌, ◌-◌, ◌*◌, ◌/◌, ◌%◌, ◌^◌, ◌<◌, ◌≤◌, ◌⊎◌, inl, inr, Bool, true, false, cond, List, [], ◌∷◌, ◌++◌, length, map, take, Option, Some, None, refl, sym, ap, ◌∙◌, subst, arith, length-append}
+use Rattle.std.proofs.Common.{◌≡◌, ◌≢◌, ℕ, zero, suc, ◌+◌, ◌-◌, ◌/◌, ◌%◌, ◌^◌, ◌<◌, ◌≤◌, ◌⊎◌, inl, inr, Bool, true, false, cond, List, [], ◌∷◌, ◌++◌, length, map, take, Option, Some, None, refl, sym, ap, ◌∙◌, subst, arith, length-append}
 use Rattle.std.specs.Prelude.{slice_get, slice_index, nat_eq, nat_lt, nat_le, not, ◌&&◌, if◌then◌else◌}
 use Rattle.std.specs.Int.{byte_at}
 use Rattle.std.proofs.lemmas.Bool.{cases_lt}
@@ -14,7 +14,6 @@ use Rattle.rv_assemble.specs.declared.unit.AsmUnit.{AsmUnit}
 use Rattle.rv_assemble.specs.declared.unit.NamedFix.{NamedFix}
 use Rattle.rv_assemble.specs.declared.object.ObjUnit.{ObjUnit}
 use Rattle.rv_assemble.specs.declared.object.Relocation.{Relocation}
-use Rattle.rv_assemble.specs.Lines.{asked_by_fix}
 use Rattle.linker.specs.Layout.{codes, images, code_size, laid, zeros, offset_of}
 use Rattle.linker.specs.Linked.{base, IsUntouched}
 use Rattle.assembled_run.specs.Program.{AreLinked, UnitAt, line_address, name_address}
@@ -26,19 +25,17 @@ use Rattle.flat_ir.specs.declared.program.Fix.{Fix}
 use Rattle.flat_ir.specs.declared.program.Target.{Target}
 use Rattle.flat_ir.specs.declared.program.Target.TheVariants as T
 use Rattle.flat_ir.specs.Bytes.{Bytes, put}
-use Rattle.flat_ir.specs.Placement.{Placement, heap_end, address_of, fixed, image_bytes, first_bytes}
+use Rattle.flat_ir.specs.Placement.{Placement, address_of, fixed, image_bytes, first_bytes}
 use Rattle.flat_ir.proofs.Framing.{put_apart}
 use Rattle.flatten.specs.declared.blocks.BlockProc.{BlockProc}
 use Rattle.flatten.specs.declared.blocks.BlockProgram.{BlockProgram}
 use Rattle.block_homes.specs.declared.homes.Assignment.{Assignment}
 use Rattle.emitted_code.specs.Frames.{is_charged}
 use Rattle.emitted_code.specs.Units.{program_units, proc_unit, image_unit, target_fix, named_fix}
-use Rattle.emitted_code.specs.Names.{proc_name, image_name, image_place}
 use Rattle.emitted_code.specs.Room.{IsProc, CanEmit, TargetFits, AimsElsewhere}
 use Rattle.emitted_code.specs.Placed.{is_free, is_alone, placed, AllBytes, HoldsImage}
 use Rattle.emitted_code.proofs.Data.{Compared, same, other, compared}
 use Rattle.emitted_code.proofs.MachineMemory.{put_byte, byte_next}
-use Rattle.emitted_code.proofs.Keeps.{ProcUnit, ImageUnit}
 use Rattle.emitted_code.proofs.Follow.{mapped_get, named_at, bytes_index}
 use Rattle.emitted_code.proofs.Program as Q
 

@@ -1,6 +1,6 @@
 -- A program's units, linked: where its procedures and its image lie.
-use Rattle.std.proofs.Common.{◌≡◌, ℕ, zero, suc, ◌+◌, ◌-◌, ◌*◌, ◌/◌, ◌%◌, ◌^◌, ◌<◌, ◌≤◌, ◌⊎◌, inl, inr, Bool, true, false, cond, List, [], ◌∷◌, ◌++◌, length, map, take, Option, Some, None, refl, sym, ap, ◌∙◌, subst, arith, append-nil, length-append}
-use Rattle.std.specs.Prelude.{slice_get, slice_index, nat_eq, nat_lt, ◌==◌, ◌&&◌, not, max, if◌then◌else◌}
+use Rattle.std.proofs.Common.{◌≡◌, ℕ, zero, suc, ◌+◌, ◌-◌, ◌^◌, ◌<◌, ◌≤◌, Bool, true, false, cond, List, [], ◌∷◌, ◌++◌, length, take, Option, Some, None, refl, sym, ap, ◌∙◌, subst, arith, append-nil, length-append}
+use Rattle.std.specs.Prelude.{slice_get, nat_lt, if◌then◌else◌}
 use Rattle.std.proofs.Math.Nat.{le-max_left, le-max_right}
 use Rattle.std.proofs.lemmas.Bool.Decides.{nat_tests}
 use Rattle.std.proofs.lemmas.Option.{slice_get_within}
@@ -8,19 +8,19 @@ use Rattle.jf_base.specs.declared.place.Limits.{Limits}
 use Rattle.jf_base.specs.Limits.{AreLimits}
 use Rattle.program_image.specs.declared.Image.{Image}
 use Rattle.rv_assemble.specs.declared.unit.AsmLine.{AsmLine}
-use Rattle.rv_assemble.specs.declared.unit.AsmLine.TheVariants.{Label, Plain, Branch, Call, Address}
+use Rattle.rv_assemble.specs.declared.unit.AsmLine.TheVariants.{Plain, Branch}
 use Rattle.rv_assemble.specs.declared.unit.AsmUnit.{AsmUnit}
 use Rattle.rv_assemble.specs.declared.object.ObjUnit.{ObjUnit}
 use Rattle.rv_assemble.specs.Lines.{IsAssembled}
-use Rattle.linker.specs.Layout.{codes, images, code_size, laid, offset_of}
+use Rattle.linker.specs.Layout.{codes, images, code_size, offset_of}
 use Rattle.linker.specs.Linked.{base}
 use Rattle.linker.proofs.Sites.{length-laid}
-use Rattle.assembled_run.specs.Program.{AreAssembled, AreLinked, UnitAt, line_address, name_address}
+use Rattle.assembled_run.specs.Program.{AreLinked, UnitAt, line_address}
 use Rattle.assembled_run.proofs.Linkable.{unit_at}
 use Rattle.assembled_run.proofs.Follows.{within}
 use Rattle.assembled_run.proofs.Standing.{code_len_small}
 use Rattle.assembled_run.proofs.Laws.{plain_steps, are_in_code}
-use Rattle.flat_ir.specs.Placement.{Placement, frames_at, objects_at, heap_at, heap_end}
+use Rattle.flat_ir.specs.Placement.{Placement, heap_end}
 use Rattle.flatten.specs.declared.blocks.BlockProc.{BlockProc}
 use Rattle.flatten.specs.declared.blocks.BlockProgram.{BlockProgram}
 use Rattle.block_homes.specs.declared.homes.Assignment.{Assignment}
@@ -28,12 +28,11 @@ use Rattle.block_homes.specs.Held.{homes_in}
 use Rattle.rv_isa.specs.declared.insn.Insn.TheVariants as M
 use Rattle.flat_ir.specs.declared.program.Operation.TheVariants as O
 use Rattle.emitted_code.specs.Straight.{Straight, Operate, insn_of, lines, load_number}
-use Rattle.emitted_code.specs.Names.{proc_name, image_name, image_place}
 use Rattle.emitted_code.specs.Frames.{Layout, layout_of, is_charged}
-use Rattle.emitted_code.specs.Code.{proc_lines, enter_code}
-use Rattle.emitted_code.specs.Units.{proc_unit, proc_units, image_unit, program_units, start_lines, first_size}
+use Rattle.emitted_code.specs.Code.{enter_code}
+use Rattle.emitted_code.specs.Units.{proc_unit, proc_units, image_unit, program_units}
 use Rattle.emitted_code.specs.Room.{IsProc, CanEmit}
-use Rattle.emitted_code.specs.Placed.{is_free, is_alone, placed, most_params}
+use Rattle.emitted_code.specs.Placed.{is_alone, placed, most_params}
 use Rattle.emitted_code.proofs.Constants.{number_few}
 use Rattle.emitted_code.proofs.Keeps.{ProcUnit, ImageUnit}
 

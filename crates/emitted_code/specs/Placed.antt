@@ -1,5 +1,5 @@
 -- Where a linked program lies, and that its image follows its blocks.
-use Rattle.std.specs.Prelude.{ℕ, ◌≡◌, ◌<◌, ◌≤◌, ◌+◌, ◌*◌, ◌^◌, Bool, true, false, not, ◌&&◌, nat_eq, cond, max, List, [], ◌∷◌, length, take, Option, Some, None, slice_get, slice_index}
+use Rattle.std.specs.Prelude.{ℕ, ◌≡◌, ◌<◌, ◌+◌, ◌*◌, ◌^◌, Bool, false, not, ◌&&◌, nat_eq, cond, max, List, [], ◌∷◌, length, take, Option, Some, None, slice_get, slice_index}
 use Rattle.behaviour.specs.Follows.{Follows}
 use Rattle.jf_base.specs.declared.place.Limits.{Limits}
 use Rattle.jf_base.specs.Limits.{AreLimits}
