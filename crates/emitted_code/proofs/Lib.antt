@@ -24,3 +24,4 @@ pub mod Labels
 pub mod Program
 pub mod Follow
 pub mod Held
+pub mod Asks

@@ -4,4 +4,5 @@ pub mod Frames
 pub mod Code
 pub mod Room
 pub mod Placed
+pub mod Chain
 pub mod Units

@@ -3,4 +3,4 @@
 
 mod laws;
 
-pub use laws::images_follow_blocks;
+pub use laws::{flat_programs_can_be_emitted, images_follow_blocks, images_follow_flat_programs};
