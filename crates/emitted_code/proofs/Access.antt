@@ -1,10 +1,9 @@
 -- Loads and stores of the program's own memory.
-use Rattle.std.proofs.Common.{◌≡◌, ℕ, zero, suc, ◌+◌, ◌-◌, ◌*◌, ◌/◌, ◌%◌, ◌^◌, ◌<◌, ◌≤◌, ◌⊎◌, inl, inr, Bool, true, false, cond, List, [], ◌∷◌, length, Option, Some, None, refl, sym, ap, ◌∙◌, subst, arith}
+use Rattle.std.proofs.Common.{◌≡◌, ℕ, zero, suc, ◌+◌, ◌/◌, ◌%◌, ◌<◌, ◌≤◌, ◌⊎◌, inl, inr, Bool, true, false, cond, Some, None, refl, ap, arith}
 use Rattle.std.specs.Prelude.{◌&&◌, ◌||◌, nat_eq, nat_le}
 use Rattle.std.proofs.lemmas.Bool.Decides.{nat_tests}
 use Rattle.flat_ir.specs.Bytes.{Bytes, Area, Areas, poke, number, put, lies, fits, loaded, stored}
-use Rattle.flat_ir.specs.Placement.{Placement, areas_of, objects_at, heap_at, heap_end}
-use Rattle.flat_ir.proofs.Framing.{number_alike}
+use Rattle.flat_ir.specs.Placement.{Placement, areas_of, objects_at, heap_end}
 use Rattle.emitted_code.proofs.Data.{Reach}
 use Rattle.emitted_code.proofs.Relate.{IsOwn}
 

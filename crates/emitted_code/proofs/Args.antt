@@ -1,11 +1,11 @@
 -- Arguments: passed by a caller, and received by a procedure.
-use Rattle.std.proofs.Common.{◌≡◌, ℕ, zero, suc, ◌+◌, ◌-◌, ◌*◌, ◌/◌, ◌%◌, ◌^◌, ◌<◌, ◌≤◌, ◌⊎◌, inl, inr, Bool, true, false, cond, List, [], ◌∷◌, ◌++◌, length, Option, Some, None, refl, sym, ap, ◌∙◌, subst, arith, length-append}
+use Rattle.std.proofs.Common.{◌≡◌, ℕ, zero, suc, ◌+◌, ◌-◌, ◌*◌, ◌%◌, ◌^◌, ◌<◌, ◌≤◌, ◌⊎◌, inl, inr, Bool, true, false, cond, List, [], ◌∷◌, ◌++◌, length, refl, sym, ap, ◌∙◌, subst, arith, length-append}
 use Rattle.std.specs.Prelude.{nat_lt, ◌==◌, slice_index, Contains}
 use Rattle.std.proofs.lemmas.Bool.Decides.{nat_tests}
 use Rattle.flat_ir.specs.Bytes.{Bytes, number, put}
 use Rattle.flat_ir.specs.Placement.{Placement, heap_end}
 use Rattle.flat_ir.specs.Flat.{World}
-use Rattle.flat_ir.proofs.Framing.{number_alike, number_put_same, number_put_apart, number_small, put_apart, put_bytes}
+use Rattle.flat_ir.proofs.Framing.{number_put_same, number_put_apart, number_small, put_apart, put_bytes}
 use Rattle.flatten.specs.declared.blocks.BlockProc.{BlockProc}
 use Rattle.flatten.specs.declared.blocks.BlockProgram.{BlockProgram}
 use Rattle.flatten.specs.Blocks as B
@@ -13,17 +13,17 @@ use Rattle.block_homes.specs.declared.homes.Home.{Home}
 use Rattle.block_homes.specs.declared.homes.Home.TheVariants as H
 use Rattle.block_homes.specs.declared.homes.Assignment.{Assignment}
 use Rattle.block_homes.specs.Held.{places_of}
-use Rattle.block_homes.specs.Homed.{Cells, value, set_value, passed}
+use Rattle.block_homes.specs.Homed.{Cells, value, passed}
 use Rattle.block_homes.specs.Valid.{IsHome}
 use Rattle.rv_assemble.specs.declared.unit.AsmLine.{AsmLine}
 use Rattle.emitted_code.specs.Straight.{Straight, store_word, load_word}
 use Rattle.emitted_code.specs.Frames.{Layout, home_of, slot_at}
 use Rattle.emitted_code.specs.Code.{read, write, pass_one, pass, receive_one, receive}
 use Rattle.emitted_code.specs.Room.{HasRoom}
-use Rattle.emitted_code.proofs.Data.{Data, acts, acts_append, Reach, AreSafe, safe_append, Gets, Small}
-use Rattle.emitted_code.proofs.FrameWords.{Puts, puts_word, gets_word, word_few, store_few}
-use Rattle.emitted_code.proofs.Relate.{IsKept, at_home, cells, Laid, cell_home, kept_range, IsFree, Stays, frame_moved, homes_same, sizes, IsOwn, Suspended, apart, Body, spans, top}
-use Rattle.emitted_code.proofs.Values.{IsApart, Wrote, cells_written, gets_stays, five, free_target, reads, writes, home_small, scratched, body_written}
+use Rattle.emitted_code.proofs.Data.{Data, acts, acts_append, Reach, AreSafe, safe_append}
+use Rattle.emitted_code.proofs.FrameWords.{puts_word, gets_word, word_few, store_few}
+use Rattle.emitted_code.proofs.Relate.{at_home, cells, Laid, cell_home, kept_range, IsFree, Stays, frame_moved, homes_same, IsOwn, Suspended, apart, Body, spans, top}
+use Rattle.emitted_code.proofs.Values.{Wrote, cells_written, gets_stays, five, free_target, reads, writes, home_small, scratched, body_written}
 use Rattle.emitted_code.proofs.Simple.{read_few, write_few}
 
 -- the j-th argument, where x2 was sp at the call

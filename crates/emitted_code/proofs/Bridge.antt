@@ -1,49 +1,31 @@
 -- An assembled and linked program keeps the laws of lines.
-use Rattle.std.proofs.Common.{◌≡◌, ℕ, zero, suc, ◌+◌, ◌-◌, ◌*◌, ◌/◌, ◌%◌, ◌^◌, ◌<◌, ◌≤◌, ◌⊎◌, inl, inr, Bool, true, false, cond, List, [], ◌∷◌, ◌++◌, length, take, drop, Option, Some, None, Ok, refl, sym, ap, ◌∙◌, subst, arith, get_or-set_same, get_or-set_other}
-use Rattle.std.specs.Prelude.{slice_get, slice_set, slice_index, nat_eq, nat_lt, nat_le, ◌==◌, not, ◌&&◌, if◌then◌else◌}
-use Rattle.std.specs.Int.{Width as IntWidth, w8, w16, w32, w64, byte_len, cast_signed}
+use Rattle.std.proofs.Common.{◌≡◌, ℕ, suc, ◌+◌, ◌-◌, ◌%◌, ◌^◌, ◌<◌, ◌≤◌, Bool, true, false, List, [], ◌∷◌, length, Option, Some, None, Ok, refl, sym, ap, ◌∙◌, subst, arith, get_or-set_same, get_or-set_other}
+use Rattle.std.specs.Prelude.{slice_get, slice_set, slice_index, ◌==◌, if◌then◌else◌}
+use Rattle.std.specs.Int.{Width as IntWidth, w8, w16, w32, w64, byte_len}
 use Rattle.std.proofs.lemmas.Bool.Decides.{nat_tests}
 use Rattle.std.proofs.lemmas.Int.{of_z-to_z}
-use Rattle.std.proofs.lemmas.Option.{slice_get_within}
 use Rattle.jf_base.specs.declared.numbers.Width.{Width}
 use Rattle.jf_base.specs.declared.numbers.Width.TheVariants.{W1, W2, W4, W8}
-use Rattle.jf_base.specs.Numbers.{size_of_width, number_low_first}
-use Rattle.program_image.specs.declared.Image.{Image}
-use Rattle.rv_isa.specs.declared.insn.Insn.{Insn}
+use Rattle.jf_base.specs.Numbers.{size_of_width}
 use Rattle.rv_isa.specs.declared.insn.Insn.TheVariants as M
 use Rattle.rv_assemble.specs.declared.unit.AsmLine.{AsmLine}
-use Rattle.rv_assemble.specs.declared.unit.AsmLine.TheVariants.{Label, Plain, Branch, Call, Address}
-use Rattle.rv_assemble.specs.declared.unit.AsmUnit.{AsmUnit}
-use Rattle.rv_assemble.specs.declared.object.ObjUnit.{ObjUnit}
-use Rattle.rv_machine.specs.declared.event.Event.{Event}
-use Rattle.rv_machine.specs.declared.event.Event.TheVariants as event
-use Rattle.rv_machine.specs.declared.event.Mode.TheVariants as mode
-use Rattle.rv_machine.specs.State.{State, register, set_register, next_pc}
+use Rattle.rv_machine.specs.State.{State, register, set_register}
 use Rattle.rv_machine.specs.Alu as alu
 use Rattle.rv_machine.specs.Alu.{shifted_left}
 use Rattle.rv_machine.specs.Memory as MM
 use Rattle.rv_machine.specs.Step as S
 use Rattle.rv_machine.specs.Step.{one, settled}
-use Rattle.rv_machine.specs.Exec.{Run, turn, exec, after}
-use Rattle.rv_machine.specs.Keeps.{Keeps}
-use Rattle.rv_machine.proofs.Laws.{turn_is}
-use Rattle.rv_machine.proofs.Keeps.{steps}
 use Rattle.rv_machine.proofs.Words.{place_at}
-use Rattle.linker.specs.Linked.{base}
-use Rattle.assembled_run.specs.Program.{AreLinked, UnitAt, line_address, name_address}
-use Rattle.assembled_run.specs.Machine.{HasCodeOf, IsAt, moved_to, IsQuiet, Leads, is_taken, Within}
 use Rattle.assembled_run.proofs.Held.{number_read}
-use Rattle.assembled_run.proofs.Leads.{still, at_moved}
-use Rattle.assembled_run.proofs.Laws.{plain_steps, keeps_code, label_stays, are_in_code, jump_leads, branch_leads, call_leads, address_leads}
 use Rattle.flat_ir.specs.declared.program.Operation.{Operation}
 use Rattle.flat_ir.specs.declared.program.Operation.TheVariants as O
-use Rattle.flat_ir.specs.Bytes.{Bytes, poke, number, put}
+use Rattle.flat_ir.specs.Bytes.{poke, number, put}
 use Rattle.flat_ir.specs.Operations.{result_of, extended}
 use Rattle.flat_ir.proofs.Framing.{poke_same, poke_apart, number_small}
 use Rattle.flat_ir.specs.Ranges.{AreBytes}
 use Rattle.emitted_code.specs.Straight.{Straight, Upper, AddImmediate, ShiftLeft, Operate, LoadFrom, StoreTo, insn_of, operation_insn, load_insn, store_insn}
 use Rattle.emitted_code.proofs.Data.{Data, set, act, Safe, IsTarget, Compared, same, other, compared}
-use Rattle.emitted_code.proofs.MachineMemory.{IsMemory, number_is, stored_is}
+use Rattle.emitted_code.proofs.MachineMemory.{IsMemory, number_is}
 
 -- the lines from the k-th on
 pub data From : List AsmLine → ℕ → List AsmLine → Type 0 where
@@ -212,8 +194,8 @@ module _ (low high : ℕ) (bottom : 65536 ≤ low) where
       let there : MM.place_of s.memory 0 n address ≡ Ok at = place_at s.memory 0 n address reach.0 (omega arith) (omega arith) in
       let num : MM.number_at s.memory n at ≡ number n d.mem address = number_read n at s.memory ∙ (number_is n at s.memory d.mem l.mem (omega arith) ∙ ap (λ v. number n d.mem v) back) in
       loads (width_of w) (signed_of w is_signed) rd address at (extended w is_signed (number n d.mem address)) (load_act w is_signed rd a imm s)
-          (subst (λ k. MM.place_of s.memory 0 k address ≡ Ok at) (sym (width_bytes w)) there) (value_is w is_signed s.memory at (number n d.mem address) num (number_small n d.mem address b)) sf.0
-          (ap (λ v. set d rd (extended w is_signed (number n d.mem v))) (sym ea))
+      (subst (λ k. MM.place_of s.memory 0 k address ≡ Ok at) (sym (width_bytes w)) there) (value_is w is_signed s.memory at (number n d.mem address) num (number_small n d.mem address b)) sf.0
+      (ap (λ v. set d rd (extended w is_signed (number n d.mem v))) (sym ea))
   does (StoreTo w k a imm) s d l c b sf =
       let n = size_of_width w in
       let address = (register s a + imm) % 2 ^ 64 in
@@ -227,4 +209,4 @@ module _ (low high : ℕ) (bottom : 65536 ≤ low) where
       let wb = width_bytes w in
       let there : MM.place_of s.memory s.code n address ≡ Ok at = place_at s.memory s.code n address reach.0 (omega arith) (omega arith) in
       stores (width_of w) address (register s k) at (store_act w k a imm s) (subst (λ m. MM.place_of s.memory s.code m address ≡ Ok at) (sym wb) there) (omega arith) (omega arith)
-          (ap (λ v. record { regs = d.regs; mem = put n d.mem v (d.regs k) }) (sym ea ∙ sym back) ∙ (ap (λ v. record { regs = d.regs; mem = put n d.mem (65536 + at) v }) (sym (l.regs k sf.0)) ∙ ap (λ m. record { regs = d.regs; mem = put m d.mem (65536 + at) (register s k) }) (sym wb)))
+      (ap (λ v. record { regs = d.regs; mem = put n d.mem v (d.regs k) }) (sym ea ∙ sym back) ∙ (ap (λ v. record { regs = d.regs; mem = put n d.mem (65536 + at) v }) (sym (l.regs k sf.0)) ∙ ap (λ m. record { regs = d.regs; mem = put m d.mem (65536 + at) (register s k) }) (sym wb)))

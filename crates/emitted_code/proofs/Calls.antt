@@ -1,8 +1,8 @@
 -- Calls: a procedure begins.
-use Rattle.std.proofs.Common.{◌≡◌, ℕ, zero, suc, ◌+◌, ◌-◌, ◌*◌, ◌/◌, ◌%◌, ◌^◌, ◌<◌, ◌≤◌, ◌⊎◌, inl, inr, Bool, true, false, cond, List, [], ◌∷◌, ◌++◌, length, map, Option, Some, None, refl, sym, ap, ◌∙◌, subst, arith, length-append}
-use Rattle.std.specs.Prelude.{slice_get, slice_set, slice_index, Contains, nat_le, nat_eq, ◌==◌, ◌||◌, replicate, if◌then◌else◌}
+use Rattle.std.proofs.Common.{◌≡◌, ℕ, zero, suc, ◌+◌, ◌-◌, ◌*◌, ◌/◌, ◌%◌, ◌^◌, ◌<◌, ◌≤◌, ◌⊎◌, inl, inr, Bool, true, false, cond, List, [], ◌∷◌, ◌++◌, length, Option, Some, None, refl, sym, ap, ◌∙◌, subst, arith, length-append}
+use Rattle.std.specs.Prelude.{slice_get, slice_index, Contains, nat_le, nat_eq, ◌==◌, ◌||◌, replicate, if◌then◌else◌}
 use Rattle.std.proofs.Math.Nat.{le-max_left, le-max_right}
-use Rattle.std.proofs.lemmas.Bool.Decides.{nat_tests, eqb_tells}
+use Rattle.std.proofs.lemmas.Bool.Decides.{nat_tests}
 use Rattle.behaviour.specs.Behaviour as R
 use Rattle.behaviour.specs.Behaviour.{Running, Wrong, Behaviour}
 use Rattle.flat_ir.specs.declared.program.Exceeded.TheVariants as X
@@ -29,26 +29,27 @@ use Rattle.block_homes.specs.Valid.{IsHome, IsNamed}
 use Rattle.block_homes.proofs.Lockstep.{At, first_block}
 use Rattle.rv_isa.specs.declared.insn.Insn.TheVariants as M
 use Rattle.rv_assemble.specs.declared.unit.AsmLine.{AsmLine}
-use Rattle.rv_assemble.specs.declared.unit.AsmLine.TheVariants.{Label, Plain, Branch, Call}
+use Rattle.rv_assemble.specs.declared.unit.AsmLine.TheVariants.{Plain, Branch, Call}
 use Rattle.rv_machine.specs.declared.event.Mode.TheVariants as mode
 use Rattle.rv_machine.specs.Exec.{Run}
 use Rattle.assembled_run.specs.Machine.{Leads}
-use Rattle.assembled_run.proofs.Leads.{leads_none, leads_then}
+use Rattle.assembled_run.proofs.Leads.{leads_then}
 use Rattle.emitted_code.specs.Straight.{Straight, Operate, lines, load_number}
 use Rattle.emitted_code.specs.Names.{proc_name}
 use Rattle.emitted_code.specs.Frames.{Layout, home_of, save_at, saved_of, is_charged, frame_size, need, words_of, most_words, words_of_blocks}
 use Rattle.emitted_code.specs.Code.{read, pass, receive, take_results, save, rest_code, blocks_code, past_code, enter_code, proc_lines, limit_code}
 use Rattle.emitted_code.specs.Units.{first_size}
+use Rattle.emitted_code.specs.Placed.{AllBytes}
 use Rattle.emitted_code.specs.Room.{IsProc, HasInsn, IsRoutine, HasRoom}
-use Rattle.emitted_code.proofs.Data.{Data, set, act, acts, acts_append, AreSafe, safe_append, Gets, gets_one, gets_append, Small, poke_small, Compared, same, other, compared}
+use Rattle.emitted_code.proofs.Data.{Data, set, act, acts, acts_append, AreSafe, safe_append, Gets, Small, poke_small}
 use Rattle.emitted_code.proofs.Constants.{gets_number, number_few}
-use Rattle.emitted_code.proofs.Relate.{IsKept, In, at_home, cells, Laid, cell_home, kept_range, IsFree, free_kept, Stays, at_alike, Frame, frame_moved, homes_same, sizes, total, IsOwn, Level, Waits, Suspended, suspended_regs, depth, apart, Body, spans, is_plain, top, floor, first_bytes_taken}
-use Rattle.emitted_code.proofs.Values.{gets_stays, seven, five, six, free_target, reads, home_small, scratched, scratched_at}
+use Rattle.emitted_code.proofs.Relate.{at_home, cells, Laid, cell_home, kept_range, free_kept, Stays, at_alike, sizes, total, IsOwn, Suspended, depth, apart, Body, spans, is_plain, top, floor, first_bytes_taken}
+use Rattle.emitted_code.proofs.Values.{gets_stays, seven, six, free_target, reads, home_small, scratched, scratched_at}
 use Rattle.emitted_code.proofs.Saves.{IsSaved, saved_range, Saved, saves, save_few}
 use Rattle.emitted_code.proofs.Args.{arg_at, arg_same, pass_few, receive_few, Passed, passes, homes_kept, Received, receives}
 use Rattle.emitted_code.proofs.Returns.{saved_few}
-use Rattle.emitted_code.proofs.Laws.{Went, went_then, goes, Jumped, Called}
-use Rattle.emitted_code.proofs.States.{Told, told_after, Given, L, at_places, Level_of, Related, going, Again, Now, proceeds, goes_wrong, LimitAt, AllBytes}
+use Rattle.emitted_code.proofs.LineLaws.{Went, goes}
+use Rattle.emitted_code.proofs.States.{Told, told_after, Given, at_places, Level_of, Again, Now, proceeds, goes_wrong}
 use Rattle.emitted_code.proofs.Simple.{Rel, Lay, run_of, home_is, home_low, has_insn, read_few}
 use Rattle.emitted_code.proofs.Ends.{ends_limited}
 

@@ -1,12 +1,12 @@
 -- Constants by ADDI, LUI and shifts.
-use Rattle.std.proofs.Common.{◌≡◌, ℕ, ◌+◌, ◌-◌, ◌*◌, ◌/◌, ◌%◌, ◌^◌, ◌<◌, ◌≤◌, Bool, true, false, cond, List, [], ◌∷◌, ◌++◌, length, refl, sym, ap, ◌∙◌, subst, arith}
+use Rattle.std.proofs.Common.{◌≡◌, ℕ, ◌+◌, ◌-◌, ◌/◌, ◌%◌, ◌^◌, ◌<◌, ◌≤◌, Bool, true, false, cond, [], ◌∷◌, ◌++◌, length, refl, ap, ◌∙◌, subst, arith}
 use Rattle.std.specs.Prelude.{nat_lt}
 use Rattle.std.proofs.lemmas.Bool.Decides.{nat_tests}
 use Rattle.rv_machine.specs.Alu.{shifted_left}
 use Rattle.flat_ir.specs.Bytes.{poke}
 use Rattle.flat_ir.proofs.Framing.{poke_same, poke_apart}
-use Rattle.emitted_code.specs.Straight.{Straight, Upper, AddImmediate, ShiftLeft, is_short, nearest, upper, lower, load_pair, append_bits, load_long, load_number}
-use Rattle.emitted_code.proofs.Data.{Data, set, act, acts, IsTarget, Safe, AreSafe, Gets, gets_append, gets_one, Small, poke_small}
+use Rattle.emitted_code.specs.Straight.{AddImmediate, is_short, nearest, upper, lower, load_pair, append_bits, load_long, load_number}
+use Rattle.emitted_code.proofs.Data.{Data, set, acts, IsTarget, Gets, gets_append, gets_one, poke_small}
 
 -- the pair makes its number, as far as 32 bits go
 pair_low : (n : ℕ) → n < 2 ^ 32 → (upper n + lower n) % 2 ^ 64 % 2 ^ 32 ≡ n

@@ -1,5 +1,5 @@
 -- Bytes taken and given, and the ends of blocks but a return.
-use Rattle.std.proofs.Common.{◌≡◌, ℕ, zero, suc, ◌+◌, ◌-◌, ◌*◌, ◌/◌, ◌%◌, ◌^◌, ◌<◌, ◌≤◌, ◌⊎◌, inl, inr, Bool, true, false, cond, List, [], ◌∷◌, ◌++◌, length, Option, Some, None, refl, sym, ap, ◌∙◌, subst, arith, length-append}
+use Rattle.std.proofs.Common.{◌≡◌, ℕ, zero, suc, ◌+◌, ◌-◌, ◌%◌, ◌^◌, ◌<◌, ◌≤◌, inl, inr, List, [], ◌∷◌, ◌++◌, length, Option, Some, None, refl, sym, ap, ◌∙◌, subst, arith}
 use Rattle.std.specs.Prelude.{slice_get, slice_set, slice_index, Contains}
 use Rattle.std.specs.Int.{w32, cast_signed}
 use Rattle.behaviour.specs.Behaviour as R
@@ -36,12 +36,13 @@ use Rattle.image_run.specs.Behaviour.{seen, mode_ending}
 use Rattle.emitted_code.specs.Straight.{Straight, AddImmediate, lines}
 use Rattle.emitted_code.specs.Frames.{Layout, home_of}
 use Rattle.emitted_code.specs.Code.{operand_register, fetch, read, write, system_call, limit_number, limit_code, rest_code}
+use Rattle.emitted_code.specs.Placed.{AllBytes}
 use Rattle.emitted_code.specs.Room.{IsProc}
-use Rattle.emitted_code.proofs.Data.{Data, set, act, acts, AreSafe, Gets, gets_one, gets_append, Small, poke_small}
+use Rattle.emitted_code.proofs.Data.{Data, set, acts, AreSafe, Gets, gets_one, Small, poke_small}
 use Rattle.emitted_code.proofs.Relate.{at_home, cells, Laid, Stays, IsFree, free_kept, Body, total}
-use Rattle.emitted_code.proofs.Values.{set_low, Fetched, Wrote, gets_stays, five, free_target, operand_low, reads, fetches, fetched_stays, home_small, writes, scratched, scratched_at}
-use Rattle.emitted_code.proofs.Laws.{Went, went_then, goes, Jumped}
-use Rattle.emitted_code.proofs.States.{Told, told_after, ready_after, Given, L, at_places, Level_of, Related, going, Again, Now, proceeds, proceeds_seen, ends_now, goes_wrong, set_next, AllBytes}
+use Rattle.emitted_code.proofs.Values.{set_low, Fetched, Wrote, gets_stays, five, free_target, operand_low, reads, fetches, fetched_stays, writes, scratched, scratched_at}
+use Rattle.emitted_code.proofs.LineLaws.{Went, went_then, goes, Jumped}
+use Rattle.emitted_code.proofs.States.{Told, told_after, Given, at_places, Level_of, Again, Now, proceeds, proceeds_seen, ends_now, goes_wrong, set_next}
 use Rattle.emitted_code.proofs.Simple.{Rel, Lay, run_of, home_is, home_low, read_few, write_few, fetch_few}
 
 pub ten : IsFree 10

@@ -1,13 +1,11 @@
 -- Words of a frame, near and far.
-use Rattle.std.proofs.Common.{◌≡◌, ℕ, ◌+◌, ◌-◌, ◌*◌, ◌/◌, ◌%◌, ◌^◌, ◌<◌, ◌≤◌, Bool, true, false, cond, List, [], ◌∷◌, ◌++◌, length, refl, sym, ap, ◌∙◌, subst, arith, length-append}
+use Rattle.std.proofs.Common.{◌≡◌, ℕ, ◌+◌, ◌%◌, ◌^◌, ◌<◌, ◌≤◌, Bool, true, false, cond, List, [], ◌∷◌, ◌++◌, length, refl, sym, ap, ◌∙◌, subst, arith, length-append}
 use Rattle.std.specs.Prelude.{nat_lt}
-use Rattle.std.proofs.lemmas.Bool.Decides.{nat_tests}
 use Rattle.jf_base.specs.declared.numbers.Width.TheVariants.{W8}
 use Rattle.flat_ir.specs.declared.program.Operation.TheVariants as O
-use Rattle.flat_ir.specs.Bytes.{poke, number, put}
-use Rattle.flat_ir.proofs.Framing.{poke_same, poke_apart}
+use Rattle.flat_ir.specs.Bytes.{number, put}
 use Rattle.emitted_code.specs.Straight.{Straight, Operate, LoadFrom, StoreTo, load_number, load_word, store_word}
-use Rattle.emitted_code.proofs.Data.{Data, set, act, acts, acts_append, IsTarget, Reach, Safe, AreSafe, safe_append, Gets, gets_append, gets_one, Small, poke_small}
+use Rattle.emitted_code.proofs.Data.{Data, set, acts, acts_append, IsTarget, Reach, AreSafe, safe_append, Gets, gets_append, gets_one, Small}
 use Rattle.emitted_code.proofs.Constants.{gets_number, number_few}
 
 -- a word is in memory; no register has changed but x7

@@ -1,11 +1,10 @@
 -- An assembled and linked program keeps the laws of lines.
-use Rattle.std.proofs.Common.{◌≡◌, ℕ, zero, suc, ◌+◌, ◌-◌, ◌*◌, ◌/◌, ◌%◌, ◌^◌, ◌<◌, ◌≤◌, ◌⊎◌, inl, inr, Bool, true, false, cond, List, [], ◌∷◌, ◌++◌, length, take, drop, Option, Some, None, refl, sym, ap, ◌∙◌, subst, arith}
-use Rattle.std.specs.Prelude.{slice_get, slice_set, slice_index, if◌then◌else◌, nat_eq, nat_lt, ◌==◌, not}
+use Rattle.std.proofs.Common.{◌≡◌, ℕ, zero, suc, ◌+◌, ◌-◌, ◌*◌, ◌/◌, ◌%◌, ◌^◌, ◌<◌, ◌≤◌, Bool, true, false, List, [], ◌∷◌, ◌++◌, length, take, drop, Some, refl, sym, ap, ◌∙◌, subst, arith}
+use Rattle.std.specs.Prelude.{slice_get, slice_set, slice_index, if◌then◌else◌, nat_lt, ◌==◌, not}
 use Rattle.std.specs.Int.{w32, byte_len, cast_signed}
 use Rattle.std.proofs.lemmas.List.{length-set, take-take, length-take-le, take-append-le}
 use Rattle.byteorder.specs.Endian.{little_bytes}
 use Rattle.std.proofs.lemmas.Bool.Decides.{nat_tests}
-use Rattle.std.proofs.lemmas.Option.{slice_get_within}
 use Rattle.program_image.specs.declared.Image.{Image}
 use Rattle.rv_isa.specs.declared.insn.Insn.{Insn}
 use Rattle.rv_isa.specs.declared.insn.Insn.TheVariants as M
@@ -13,22 +12,20 @@ use Rattle.rv_assemble.specs.declared.unit.AsmLine.{AsmLine}
 use Rattle.rv_assemble.specs.declared.unit.AsmLine.TheVariants.{Label, Plain, Branch, Call, Address}
 use Rattle.rv_assemble.specs.declared.unit.AsmUnit.{AsmUnit}
 use Rattle.rv_assemble.specs.declared.object.ObjUnit.{ObjUnit}
-use Rattle.rv_assemble.specs.Places.{IsConditional}
 use Rattle.rv_machine.specs.declared.event.Event.TheVariants as event
 use Rattle.rv_machine.specs.declared.event.Mode.TheVariants as mode
 use Rattle.rv_machine.specs.State.{State, register, set_register, next_pc}
 use Rattle.rv_machine.specs.Memory.{stored}
-use Rattle.rv_machine.specs.Step.{one, settled}
 use Rattle.rv_machine.specs.Exec.{Run, turn, exec}
 use Rattle.rv_machine.proofs.Rows.{set_turn, load_turn, store_turn, jalr_turn, give_turn, exit_turn, byte_turn, end_turn, limit_turn}
 use Rattle.rv_machine.proofs.Laws.{IsAtWord}
 use Rattle.rv_machine.proofs.Kept.{length-stored}
 use Rattle.rv_isa.specs.Encode.{IsEncodable, encode_of}
 use Rattle.assembled_run.specs.Program.{AreLinked, UnitAt, line_address, name_address}
-use Rattle.assembled_run.specs.Machine.{HasCodeOf, IsAt, moved_to, IsQuiet, Leads, is_taken, Within}
+use Rattle.assembled_run.specs.Machine.{HasCodeOf, IsAt, moved_to, IsQuiet, Leads, Within}
 use Rattle.assembled_run.proofs.Leads.{still, leads_one, at_moved}
 use Rattle.assembled_run.proofs.Standing.{offset_code}
-use Rattle.assembled_run.proofs.Laws.{plain_at, plain_steps, keeps_code, label_stays, are_in_code, jump_leads, branch_leads, call_leads, address_leads}
+use Rattle.assembled_run.proofs.Laws.{plain_at, plain_steps, label_stays, are_in_code, jump_leads, branch_leads, call_leads, address_leads}
 use Rattle.flat_ir.specs.Bytes.{Bytes, put}
 use Rattle.flat_ir.specs.Ranges.{AreBytes}
 use Rattle.flat_ir.specs.Placement.{Placement, heap_end}
@@ -46,7 +43,7 @@ use Rattle.emitted_code.specs.Room.{IsProc}
 use Rattle.emitted_code.proofs.Data.{Data, set, act, Safe, IsTarget}
 use Rattle.emitted_code.proofs.MachineMemory.{IsMemory, stored_is}
 use Rattle.emitted_code.proofs.Bridge.{From, here, later, from_get, from_next, Like, regs_set, Does, sets, loads, stores, does}
-use Rattle.emitted_code.proofs.Laws.{Went, Jumped, Called, Turned, Laws}
+use Rattle.emitted_code.proofs.LineLaws.{Went, Jumped, Called, Turned, Laws}
 
 from_le : (xs : List AsmLine) (k : ℕ) (ls : List AsmLine) → From xs k ls → k ≤ length xs
 from_le xs k ls (here w) = omega arith
@@ -150,7 +147,7 @@ module _ (us : List AsmUnit) (os : List ObjUnit) (image : Image) (made : AreLink
     sets_one : (i : ℕ) (insn : Insn) (ls : List AsmLine) (d : Data) (r : Run) (h : On i (Plain insn ∷ ls) d r) (rd v : ℕ) → IsTarget rd → turn r ≡ moved_to r (set_register r.state.registers rd v) (line_address h.unit (h.line + 1)) → Goes 1 i ls (set d rd v) r
     sets_one i insn ls d r h rd v t goes =
         moved_on i (Plain insn ∷ ls) d (set d rd v) r h 1 (h.line + 1) (set_register r.state.registers rd v) ls (leads_one r (set_register r.state.registers rd v) (line_address h.unit (h.line + 1)) h.at.ready goes) (from_next h.unit.unit.lines h.line (Plain insn) ls h.rest) refl
-            (set_length r.state.registers rd v ∙ h.like.count) (regs_set r.state.registers d.regs rd v t h.like.count h.like.regs)
+        (set_length r.state.registers rd v ∙ h.like.count) (regs_set r.state.registers d.regs rd v t h.like.count h.like.regs)
 
     plain : (i : ℕ) (x : Straight) (ls : List AsmLine) (d : Data) (r : Run) → On i (Plain (insn_of x) ∷ ls) d r → Safe low high x d → Goes 1 i ls (act x d) r
     plain i x ls d r h sf = go (does low high bottom x r.state d h.like (let e = h.at.has.len in omega arith) h.bytes sf)
@@ -425,7 +422,7 @@ module _ (us : List AsmUnit) (os : List ObjUnit) (image : Image) (made : AreLink
       address_set : (i rd : ℕ) (name : List ℕ) (offset : ℕ) (ls : List AsmLine) (d : Data) (r : Run) (h : On i (Address rd name offset ∷ ls) d r) (v : ℕ) → IsTarget rd → Leads 2 r (moved_to r (set_register r.state.registers rd v) (line_address h.unit (h.line + 1))) → Goes 2 i ls (set d rd v) r
       address_set i rd name offset ls d r h v t l =
           moved_on i (Address rd name offset ∷ ls) d (set d rd v) r h 2 (h.line + 1) (set_register r.state.registers rd v) ls l (from_next h.unit.unit.lines h.line (Address rd name offset) ls h.rest) refl
-              (set_length r.state.registers rd v ∙ h.like.count) (regs_set r.state.registers d.regs rd v t h.like.count h.like.regs)
+          (set_length r.state.registers rd v ∙ h.like.count) (regs_set r.state.registers d.regs rd v t h.like.count h.like.regs)
 
       first_place : (p : ℕ) (f : BlockProc) (u : ProcUnit p f) → name_address u.unit 0 ≡ line_address u.unit 0
       first_place p f u =

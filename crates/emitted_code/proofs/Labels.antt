@@ -1,8 +1,7 @@
 -- Where labels stand in the lines of a procedure.
-use Rattle.std.proofs.Common.{◌≡◌, ℕ, zero, suc, ◌+◌, ◌-◌, ◌<◌, ◌≤◌, Bool, true, false, List, [], ◌∷◌, ◌++◌, length, drop, Option, Some, None, refl, sym, ap, ◌∙◌, subst, arith}
+use Rattle.std.proofs.Common.{◌≡◌, ℕ, zero, suc, ◌+◌, ◌<◌, Bool, true, false, List, [], ◌∷◌, ◌++◌, length, drop, Option, Some, refl, sym, ap, ◌∙◌, subst, arith}
 use Rattle.std.specs.Prelude.{slice_get}
 use Rattle.std.proofs.lemmas.Option.{slice_get_within}
-use Rattle.rv_isa.specs.declared.insn.Insn.{Insn}
 use Rattle.rv_assemble.specs.declared.unit.AsmLine.{AsmLine}
 use Rattle.rv_assemble.specs.declared.unit.AsmLine.TheVariants.{Label, Plain, Branch, Call, Address}
 use Rattle.flatten.specs.declared.blocks.BlockInsn.{BlockInsn}
@@ -14,7 +13,7 @@ use Rattle.flatten.specs.declared.blocks.BlockProc.{BlockProc}
 use Rattle.flat_ir.specs.declared.program.Operation.TheVariants as O
 use Rattle.rv_isa.specs.declared.insn.Insn.TheVariants as M
 use Rattle.emitted_code.specs.Names.{proc_name}
-use Rattle.emitted_code.specs.Straight.{Straight, Operate, LoadFrom, StoreTo, insn_of, lines, load_number}
+use Rattle.emitted_code.specs.Straight.{Straight, Operate, LoadFrom, StoreTo, lines, load_number}
 use Rattle.emitted_code.specs.Frames.{Layout, home_of, saved_of, is_charged}
 use Rattle.emitted_code.specs.Code.{operand_register, result_register, fetch, settle, read, write, copy, pass, receive, give_results, take_results, save, leave, system_call, insn_code, end_code, rest_code, blocks_code, limit_code, past_code, enter_code, proc_lines}
 use Rattle.emitted_code.proofs.Bridge.{From, here, later}

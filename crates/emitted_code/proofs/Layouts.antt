@@ -1,5 +1,5 @@
 -- What is known of the layouts of procedures.
-use Rattle.std.proofs.Common.{◌≡◌, ℕ, zero, suc, ◌+◌, ◌-◌, ◌*◌, ◌/◌, ◌%◌, ◌<◌, ◌≤◌, ◌⊎◌, inl, inr, Bool, true, false, cond, List, [], ◌∷◌, length, map, Option, Some, None, refl, sym, ap, ◌∙◌, subst, arith}
+use Rattle.std.proofs.Common.{◌≡◌, ℕ, zero, suc, ◌+◌, ◌*◌, ◌/◌, ◌%◌, ◌<◌, ◌≤◌, ◌⊎◌, inl, inr, Bool, true, false, cond, List, [], ◌∷◌, length, refl, sym, ap, ◌∙◌, subst, arith}
 use Rattle.std.specs.Prelude.{slice_get, slice_index, ◌==◌, ◌||◌, All}
 use Rattle.std.proofs.lemmas.Bool.Decides.{nat_tests}
 use Rattle.std.proofs.lemmas.Option.{slice_get-get_or}
@@ -10,8 +10,8 @@ use Rattle.block_homes.specs.declared.homes.Home.{Home}
 use Rattle.block_homes.specs.declared.homes.Home.TheVariants as H
 use Rattle.block_homes.specs.declared.homes.Assignment.{Assignment}
 use Rattle.block_homes.specs.Held.{place, places_of, homes_in}
-use Rattle.block_homes.specs.Valid.{IsHome, AreHomes}
-use Rattle.emitted_code.specs.Frames.{Layout, layout_of, home_or, home_of, is_register, is_used, used_of, kept_registers, saved_of, is_charged, frame_size, need}
+use Rattle.block_homes.specs.Valid.{IsHome}
+use Rattle.emitted_code.specs.Frames.{layout_of, home_or, is_register, is_used, used_of, kept_registers, is_charged, frame_size, need}
 use Rattle.emitted_code.specs.Room.{IsProc, CanEmit}
 use Rattle.emitted_code.proofs.Relate.{IsKept, In, Laid}
 

@@ -2,7 +2,7 @@ pub mod Data
 pub mod Constants
 pub mod FrameWords
 pub mod Relate
-pub mod Laws
+pub mod LineLaws
 pub mod Steps
 pub mod Values
 pub mod Small
@@ -21,3 +21,7 @@ pub mod Bridge
 pub mod Keeps
 pub mod Layouts
 pub mod Labels
+pub mod Program
+pub mod Follow
+pub mod Held
+pub mod Asks

@@ -1,5 +1,5 @@
 -- The machine's memory, a list, as a function of addresses.
-use Rattle.std.proofs.Common.{◌≡◌, ℕ, zero, suc, ◌+◌, ◌-◌, ◌*◌, ◌/◌, ◌%◌, ◌^◌, ◌<◌, ◌≤◌, ◌⊎◌, inl, inr, List, [], ◌∷◌, ◌++◌, length, take, drop, refl, sym, ap, ◌∙◌, subst, arith, length-append}
+use Rattle.std.proofs.Common.{◌≡◌, ℕ, zero, suc, ◌+◌, ◌-◌, ◌*◌, ◌/◌, ◌%◌, ◌^◌, ◌<◌, ◌≤◌, ◌⊎◌, inl, inr, List, ◌++◌, length, take, drop, refl, sym, ap, ◌∙◌, arith, length-append}
 use Rattle.std.specs.Prelude.{slice_index}
 use Rattle.std.specs.Int.{bytes_low_first, byte_at}
 use Rattle.std.proofs.Math.Nat.{pow-suc, div-div-eq-div-mul}
@@ -33,7 +33,7 @@ bytes_length : (n i v : ℕ) → length (bytes_low_first i n v) ≡ n
 bytes_length zero i v = refl
 bytes_length (suc n) i v = omega (arith, bytes_length n (suc i) v)
 
-byte_next : (j v : ℕ) → byte_at j (v / 256) ≡ byte_at (suc j) v
+pub byte_next : (j v : ℕ) → byte_at j (v / 256) ≡ byte_at (suc j) v
 byte_next zero v = refl
 byte_next (suc j) v =
     let e : 256 * 256 ^ suc j ≡ 256 ^ suc (suc j) = omega (arith, pow-suc 256 (suc j)) in

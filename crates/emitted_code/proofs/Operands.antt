@@ -1,6 +1,6 @@
 -- Operands and results of one instruction.
-use Rattle.std.proofs.Common.{◌≡◌, ℕ, zero, suc, ◌+◌, ◌-◌, ◌*◌, ◌/◌, ◌%◌, ◌^◌, ◌<◌, ◌≤◌, ◌⊎◌, inl, inr, Bool, true, false, cond, List, [], ◌∷◌, ◌++◌, length, Option, Some, None, refl, sym, ap, ◌∙◌, subst, arith, length-append}
-use Rattle.flat_ir.specs.Bytes.{Bytes, number, put}
+use Rattle.std.proofs.Common.{◌≡◌, ℕ, ◌+◌, ◌^◌, ◌<◌, ◌≤◌, inl, inr, List, [], ◌∷◌, ◌++◌, length, refl, sym, ap, ◌∙◌, subst, arith}
+use Rattle.flat_ir.specs.Bytes.{Bytes, put}
 use Rattle.flat_ir.specs.Placement.{Placement, heap_end}
 use Rattle.flat_ir.specs.Flat.{World}
 use Rattle.flat_ir.proofs.Framing.{poke_same, poke_apart}
@@ -13,13 +13,13 @@ use Rattle.block_homes.specs.declared.homes.Assignment.{Assignment}
 use Rattle.block_homes.specs.Valid.{IsHome}
 use Rattle.rv_assemble.specs.declared.unit.AsmLine.{AsmLine}
 use Rattle.emitted_code.specs.Straight.{Straight, store_word}
-use Rattle.emitted_code.specs.Frames.{Layout, home_of, slot_at}
+use Rattle.emitted_code.specs.Frames.{Layout, slot_at}
 use Rattle.emitted_code.specs.Code.{operand_register, fetch, result_register, settle}
 use Rattle.emitted_code.specs.Room.{HasRoom}
-use Rattle.emitted_code.proofs.Data.{Data, set, act, acts, acts_append, IsTarget, Reach, Safe, AreSafe, safe_append, Gets, Small, poke_small}
+use Rattle.emitted_code.proofs.Data.{Data, set, act, acts, acts_append, Reach, Safe, AreSafe, safe_append, Gets, Small, poke_small}
 use Rattle.emitted_code.proofs.FrameWords.{puts_word}
-use Rattle.emitted_code.proofs.Relate.{IsKept, at_home, Laid, kept_range, Stays, homes_same, Body}
-use Rattle.emitted_code.proofs.Values.{Fetched, IsApart, kept_apart, Wrote, apart_seven, fetched_stays, five, six, free_target, operand_apart, low, high, Is, reaches, scratched, fetches}
+use Rattle.emitted_code.proofs.Relate.{at_home, Laid, homes_same}
+use Rattle.emitted_code.proofs.Values.{Fetched, IsApart, Wrote, apart_seven, fetched_stays, five, six, free_target, operand_apart, low, high, Is, reaches, scratched, fetches}
 
 -- code that changes scratch registers alone
 pub record Scratches (low high : ℕ) (d : Data) (xs : List Straight) : Type 0 where

@@ -1,5 +1,5 @@
 -- How a state of the blocks lies in registers and memory.
-use Rattle.std.proofs.Common.{◌≡◌, ℕ, zero, suc, ◌+◌, ◌-◌, ◌*◌, ◌/◌, ◌%◌, ◌^◌, ◌<◌, ◌≤◌, ◌⊎◌, inl, inr, Bool, true, false, cond, List, [], ◌∷◌, ◌++◌, length, map, Option, Some, None, refl, sym, ap, ◌∙◌, subst, arith}
+use Rattle.std.proofs.Common.{◌≡◌, ℕ, ◌+◌, ◌-◌, ◌*◌, ◌%◌, ◌<◌, ◌≤◌, ◌⊎◌, inl, inr, Bool, true, false, cond, List, [], ◌∷◌, length, refl, sym, ap, ◌∙◌, subst, arith}
 use Rattle.std.specs.Prelude.{nat_lt, nat_eq, ◌||◌, slice_get, slice_index}
 use Rattle.std.proofs.lemmas.Bool.Decides.{nat_tests}
 use Rattle.flat_ir.specs.Bytes.{Bytes, number}
@@ -9,7 +9,6 @@ use Rattle.flat_ir.specs.Ranges.{AreBytes}
 use Rattle.flat_ir.proofs.Framing.{number_alike}
 use Rattle.flatten.specs.declared.blocks.BlockInsn.{BlockInsn}
 use Rattle.flatten.specs.declared.blocks.BlockEnd.{BlockEnd}
-use Rattle.flatten.specs.declared.blocks.Block.{Block}
 use Rattle.flatten.specs.declared.blocks.BlockProc.{BlockProc}
 use Rattle.flatten.specs.declared.blocks.BlockProgram.{BlockProgram}
 use Rattle.flatten.specs.Blocks as B
@@ -17,14 +16,14 @@ use Rattle.flatten.specs.Paths.{sets}
 use Rattle.block_homes.specs.declared.homes.Home.{Home}
 use Rattle.block_homes.specs.declared.homes.Home.TheVariants as H
 use Rattle.block_homes.specs.declared.homes.Assignment.{Assignment}
-use Rattle.block_homes.specs.Held.{place, places_of, homes_in, after, held}
+use Rattle.block_homes.specs.Held.{place, places_of, homes_in}
 use Rattle.block_homes.specs.Homed.{Cells, value}
 use Rattle.block_homes.specs.Valid.{IsHome}
-use Rattle.block_homes.proofs.Lockstep.{At, Agrees}
+use Rattle.block_homes.proofs.Lockstep.{At}
 use Rattle.rv_assemble.specs.declared.unit.AsmLine.{AsmLine}
 use Rattle.emitted_code.specs.Straight.{lines}
 use Rattle.emitted_code.specs.Frames.{Layout, layout_of, home_of, save_number, save_at, slot_at, saved_of, is_charged, frame_size}
-use Rattle.emitted_code.specs.Code.{take_results, rest_code, limit_code}
+use Rattle.emitted_code.specs.Code.{take_results, rest_code}
 use Rattle.emitted_code.specs.Units.{first_size}
 use Rattle.emitted_code.specs.Room.{IsProc, HasRoom}
 use Rattle.emitted_code.proofs.Data.{Data, Small}

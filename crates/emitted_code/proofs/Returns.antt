@@ -1,25 +1,21 @@
 -- Returns: results in x10 and x11, the caller's registers, and the results at their homes.
-use Rattle.std.proofs.Common.{◌≡◌, ℕ, zero, suc, ◌+◌, ◌-◌, ◌*◌, ◌/◌, ◌%◌, ◌^◌, ◌<◌, ◌≤◌, ◌⊎◌, inl, inr, Bool, true, false, cond, List, [], ◌∷◌, ◌++◌, length, map, Option, Some, None, refl, sym, ap, ◌∙◌, subst, arith, length-append}
-use Rattle.std.specs.Prelude.{slice_get, slice_set, slice_index, Contains}
-use Rattle.behaviour.specs.Behaviour.{Running, Wrong, Behaviour}
-use Rattle.flat_ir.specs.Bytes.{Bytes, number, put}
+use Rattle.std.proofs.Common.{◌≡◌, ℕ, suc, ◌+◌, ◌-◌, ◌*◌, ◌%◌, ◌^◌, ◌<◌, ◌≤◌, ◌⊎◌, inl, inr, Bool, true, false, cond, List, [], ◌∷◌, ◌++◌, length, Option, Some, None, refl, sym, ap, ◌∙◌, subst, arith, length-append}
+use Rattle.std.specs.Prelude.{slice_set, slice_index, Contains}
+use Rattle.behaviour.specs.Behaviour.{Wrong}
+use Rattle.flat_ir.specs.Bytes.{Bytes}
 use Rattle.flat_ir.specs.Placement.{Placement, heap_end}
 use Rattle.flat_ir.specs.Flat as F
 use Rattle.flat_ir.specs.Flat.{World, with_frames}
 use Rattle.flat_ir.proofs.Framing.{poke_same, poke_apart}
-use Rattle.flatten.specs.declared.blocks.BlockInsn.{BlockInsn}
-use Rattle.flatten.specs.declared.blocks.BlockEnd.{BlockEnd}
 use Rattle.flatten.specs.declared.blocks.BlockEnd.TheVariants as E
 use Rattle.flatten.specs.declared.blocks.BlockProc.{BlockProc}
 use Rattle.flatten.specs.declared.blocks.BlockProgram.{BlockProgram}
 use Rattle.flatten.specs.Blocks as B
 use Rattle.flatten.specs.Named.{AllBelow}
-use Rattle.flatten.specs.Paths.{sets}
 use Rattle.block_homes.specs.declared.homes.Home.{Home}
 use Rattle.block_homes.specs.declared.homes.Home.TheVariants as H
 use Rattle.block_homes.specs.declared.homes.Assignment.{Assignment}
-use Rattle.block_homes.specs.Held.{places_of, put as put_all, wrote, after, held, uses_from}
-use Rattle.block_homes.specs.Homed.{Cells, value, set_value}
+use Rattle.block_homes.specs.Held.{places_of, put as put_all, wrote, after, held}
 use Rattle.block_homes.specs.Valid.{IsHome}
 use Rattle.block_homes.proofs.Lockstep.{At, Agrees, agrees_set, moved}
 use Rattle.rv_isa.specs.declared.insn.Insn.TheVariants as M
@@ -28,19 +24,18 @@ use Rattle.rv_assemble.specs.declared.unit.AsmLine.TheVariants.{Plain}
 use Rattle.rv_machine.specs.declared.event.Mode.TheVariants as mode
 use Rattle.rv_machine.specs.Exec.{Run}
 use Rattle.assembled_run.specs.Machine.{Leads}
-use Rattle.assembled_run.proofs.Leads.{leads_none, leads_then}
+use Rattle.assembled_run.proofs.Leads.{leads_then}
 use Rattle.flat_ir.specs.declared.program.Operation.TheVariants as O
-use Rattle.emitted_code.specs.Straight.{Straight, AddImmediate, Operate, lines, load_number}
-use Rattle.emitted_code.specs.Frames.{Layout, home_of, save_at, saved_of, is_used, used_of, kept_registers, frame_size}
+use Rattle.emitted_code.specs.Straight.{Straight, Operate, lines, load_number}
+use Rattle.emitted_code.specs.Frames.{Layout, home_of, saved_of, is_used, used_of, kept_registers}
 use Rattle.emitted_code.specs.Code.{read, write, give_results, take_results, restore, leave, rest_code}
-use Rattle.emitted_code.specs.Room.{IsProc}
-use Rattle.emitted_code.proofs.Data.{Data, set, act, acts, acts_append, AreSafe, safe_append, Gets, gets_one, Small, poke_small, Compared, same, other, compared}
+use Rattle.emitted_code.proofs.Data.{Data, set, acts, acts_append, AreSafe, safe_append, Gets, Small, poke_small, Compared, same, other, compared}
 use Rattle.emitted_code.proofs.Constants.{gets_number, number_few}
-use Rattle.emitted_code.proofs.Relate.{IsKept, In, at_home, cells, Laid, cell_home, kept_range, IsFree, Stays, at_alike, Frame, frame_moved, homes_same, sizes, total, Waits, Suspended, Body, spans, top, floor}
-use Rattle.emitted_code.proofs.Values.{set_low, IsApart, kept_apart, Wrote, cells_written, gets_stays, apart_seven, five, free_target, reads, writes, home_small, scratched, scratched_at, body_written}
-use Rattle.emitted_code.proofs.Saves.{IsSaved, saved_range, Restored, restores, restore_few}
-use Rattle.emitted_code.proofs.Laws.{Went, went_then, goes}
-use Rattle.emitted_code.proofs.States.{Told, told_after, Given, L, at_places, Level_of, Related, going, Again, Now, proceeds, goes_wrong}
+use Rattle.emitted_code.proofs.Relate.{IsKept, In, at_home, cells, Laid, cell_home, kept_range, IsFree, Stays, at_alike, frame_moved, homes_same, sizes, Waits, Suspended, Body, spans, top, floor}
+use Rattle.emitted_code.proofs.Values.{set_low, Wrote, cells_written, gets_stays, free_target, reads, writes, scratched, body_written}
+use Rattle.emitted_code.proofs.Saves.{IsSaved, Restored, restores, restore_few}
+use Rattle.emitted_code.proofs.LineLaws.{Went, goes}
+use Rattle.emitted_code.proofs.States.{told_after, Given, at_places, Again, Now, proceeds, goes_wrong}
 use Rattle.emitted_code.proofs.Simple.{Rel, Lay, run_of, home_is, home_low, read_few, write_few}
 
 -- these numbers are in the registers from x10 + i on

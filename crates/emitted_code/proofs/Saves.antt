@@ -1,10 +1,10 @@
 -- Registers that are saved and restored.
-use Rattle.std.proofs.Common.{◌≡◌, ℕ, zero, suc, ◌+◌, ◌-◌, ◌*◌, ◌/◌, ◌%◌, ◌^◌, ◌<◌, ◌≤◌, ◌⊎◌, inl, inr, List, [], ◌∷◌, ◌++◌, length, refl, sym, ap, ◌∙◌, subst, arith, length-append}
+use Rattle.std.proofs.Common.{◌≡◌, ℕ, ◌+◌, ◌*◌, ◌%◌, ◌^◌, ◌<◌, ◌≤◌, ◌⊎◌, inl, inr, List, [], ◌∷◌, ◌++◌, length, refl, sym, ap, ◌∙◌, subst, arith, length-append}
 use Rattle.flat_ir.specs.Bytes.{Bytes, number, put}
 use Rattle.flat_ir.specs.Ranges.{AreBytes}
 use Rattle.flat_ir.proofs.Framing.{number_put_same, number_put_apart, put_apart, put_bytes, number_small}
 use Rattle.emitted_code.specs.Straight.{Straight, load_word, store_word}
-use Rattle.emitted_code.specs.Frames.{Layout, save_number, save_at}
+use Rattle.emitted_code.specs.Frames.{Layout, save_at}
 use Rattle.emitted_code.specs.Code.{save, restore}
 use Rattle.emitted_code.proofs.Data.{Data, acts, acts_append, IsTarget, Reach, AreSafe, safe_append, Gets, Small, Compared, same, other, compared}
 use Rattle.emitted_code.proofs.FrameWords.{Puts, puts_word, gets_word, word_few, store_few}

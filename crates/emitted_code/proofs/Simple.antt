@@ -1,11 +1,11 @@
 -- Instructions that are straight code, and addresses.
-use Rattle.std.proofs.Common.{◌≡◌, ℕ, zero, suc, ◌+◌, ◌-◌, ◌*◌, ◌/◌, ◌%◌, ◌^◌, ◌<◌, ◌≤◌, ◌⊎◌, inl, inr, Bool, true, false, cond, List, [], ◌∷◌, ◌++◌, length, Option, Some, None, refl, sym, ap, ◌∙◌, subst, arith, length-append}
+use Rattle.std.proofs.Common.{◌≡◌, ℕ, zero, suc, ◌+◌, ◌%◌, ◌^◌, ◌<◌, ◌≤◌, inl, inr, Bool, true, false, List, [], ◌∷◌, ◌++◌, length, Option, Some, None, refl, sym, ap, ◌∙◌, subst, arith, length-append}
 use Rattle.std.specs.Prelude.{slice_get, slice_set, slice_index, Contains}
-use Rattle.behaviour.specs.Behaviour.{Running, Wrong, Behaviour}
+use Rattle.behaviour.specs.Behaviour.{Wrong, Behaviour}
 use Rattle.jf_base.specs.declared.numbers.Width.{Width}
 use Rattle.jf_base.specs.Numbers.{size_of_width}
 use Rattle.flat_ir.specs.declared.program.Operation.{Operation}
-use Rattle.flat_ir.specs.Bytes.{Bytes, number, put, loaded, stored, fits}
+use Rattle.flat_ir.specs.Bytes.{Bytes, number, put, loaded, stored}
 use Rattle.flat_ir.specs.Operations.{result_of, extended}
 use Rattle.flat_ir.specs.Placement.{Placement, heap_end}
 use Rattle.flat_ir.specs.Flat as F
@@ -28,20 +28,20 @@ use Rattle.block_homes.specs.Valid.{IsHome}
 use Rattle.block_homes.proofs.Lockstep.{At, used, moved_none}
 use Rattle.rv_assemble.specs.declared.unit.AsmLine.{AsmLine}
 use Rattle.rv_machine.specs.Exec.{Run}
-use Rattle.emitted_code.specs.Straight.{Straight, Operate, LoadFrom, StoreTo, lines, load_number, load_word, store_word}
+use Rattle.emitted_code.specs.Straight.{Straight, Operate, LoadFrom, StoreTo, lines, load_number, store_word}
 use Rattle.emitted_code.specs.Frames.{Layout, home_of, slot_at, is_charged}
 use Rattle.emitted_code.specs.Code.{operand_register, fetch, result_register, settle, read, write, copy, rest_code}
-use Rattle.emitted_code.specs.Room.{IsProc, HasInsn, InsnFits, CanEmit}
-use Rattle.emitted_code.proofs.Data.{Data, set, act, acts, acts_append, IsTarget, Safe, AreSafe, safe_append, Gets, gets_one, Small, poke_small, Compared, same, other, compared}
+use Rattle.emitted_code.specs.Room.{IsProc, HasInsn}
+use Rattle.emitted_code.proofs.Data.{Data, set, act, acts, acts_append, Safe, AreSafe, safe_append, Small, poke_small, Compared, same, other, compared}
 use Rattle.emitted_code.proofs.Constants.{gets_number, number_few}
 use Rattle.emitted_code.proofs.FrameWords.{regroup, word_few, store_few, puts_word}
 use Rattle.emitted_code.proofs.Small.{result_small, extended_small}
-use Rattle.emitted_code.proofs.Relate.{at_home, cells, Laid, cell_home, Frame, frame_moved, homes_same, Stays, at_alike, IsOwn, Suspended, apart, Body, spans, sizes}
-use Rattle.emitted_code.proofs.Values.{use_low, set_low, IsApart, kept_apart, Wrote, result_target, operand_low, apart_seven, fetched_stays, five, free_target, reads, fetches, home_small, scratched, scratched_at, reaches, stays_of}
-use Rattle.emitted_code.proofs.Operands.{Scratches, Computes, gets_computes, computes_last, fetched_scratches, settles, Two, fetches_two, apart_not}
+use Rattle.emitted_code.proofs.Relate.{at_home, cells, Laid, cell_home, frame_moved, homes_same, Stays, at_alike, Suspended, apart, Body, spans, sizes}
+use Rattle.emitted_code.proofs.Values.{use_low, set_low, kept_apart, Wrote, result_target, operand_low, apart_seven, fetched_stays, five, free_target, reads, fetches, home_small, scratched, scratched_at, reaches}
+use Rattle.emitted_code.proofs.Operands.{Scratches, gets_computes, computes_last, fetched_scratches, settles, fetches_two, apart_not}
 use Rattle.emitted_code.proofs.Access.{Owned, owned, owned_reach, owned_bytes, owned_apart, load_done, store_done, put_same}
-use Rattle.emitted_code.proofs.Laws.{Went, went_then, goes}
-use Rattle.emitted_code.proofs.States.{Told, told_after, Given, L, at_places, Body_of, Related, going, Again, Now, proceeds, goes_wrong, has_set, some}
+use Rattle.emitted_code.proofs.LineLaws.{Went, went_then, goes}
+use Rattle.emitted_code.proofs.States.{told_after, Given, L, at_places, Related, going, Again, Now, proceeds, goes_wrong, has_set}
 
 mid_get : (ran : List BlockInsn) (y : BlockInsn) (rest : List BlockInsn) → slice_get (ran ++ y ∷ rest) (length ran) ≡ Some y
 mid_get [] y rest = refl

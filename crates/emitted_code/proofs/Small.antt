@@ -1,13 +1,13 @@
 -- What operations give is a number of 64 bits.
-use Rattle.std.proofs.Common.{◌≡◌, ℕ, zero, suc, ◌+◌, ◌-◌, ◌*◌, ◌/◌, ◌%◌, ◌^◌, ◌<◌, ◌≤◌, Bool, true, false, cond, refl, sym, ap, ◌∙◌, subst, arith, lit<, ℤ, pos, mul-le-mul}
-use Rattle.std.specs.Prelude.{nat_lt, nat_eq, ◌&&◌, ◌*ℤ◌, int_div, int_rem, int_lt, bit_and, bit_or, bit_xor}
-use Rattle.std.specs.Int.{Width, w8, w16, w32, w64, w128, int_shr, cast_signed, cast_unsigned}
+use Rattle.std.proofs.Common.{◌≡◌, ℕ, suc, ◌+◌, ◌-◌, ◌*◌, ◌/◌, ◌%◌, ◌^◌, ◌<◌, ◌≤◌, Bool, true, false, cond, refl, arith, lit<, ℤ, pos, mul-le-mul}
+use Rattle.std.specs.Prelude.{nat_lt, nat_eq, ◌&&◌, ◌*ℤ◌, int_div, int_rem, int_lt}
+use Rattle.std.specs.Int.{Width, w8, w16, w32, w64, w128, int_shr}
 use Rattle.std.specs.Int.Signed.{mag, nat_abs-le}
-use Rattle.std.proofs.lemmas.Int.{to_z-of_z, fits_signed_mul}
+use Rattle.std.proofs.lemmas.Int.{fits_signed_mul}
 use Rattle.std.proofs.lemmas.Nat.{xor_lt, or_lt, and_le_l}
 use Rattle.std.proofs.lemmas.Bool.Decides.{nat_tests}
 use Rattle.std.proofs.Math.Nat.{div-le_self, mod-le}
-use lib.IntN.{negsuc, nat_abs}
+use lib.IntN.{negsuc}
 use mir.Val.{to_z, of_z, bits, hbits, SFits, sel}
 use Rattle.jf_base.specs.declared.numbers.Width.TheVariants.{W1, W2, W4, W8}
 use Rattle.jf_base.specs.declared.numbers.Width as J

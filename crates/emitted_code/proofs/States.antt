@@ -1,6 +1,6 @@
 -- States of the blocks and runs of the machine that stand for each other, and one step of both.
-use Rattle.std.proofs.Common.{◌≡◌, ℕ, zero, suc, ◌+◌, ◌-◌, ◌*◌, ◌/◌, ◌%◌, ◌^◌, ◌<◌, ◌≤◌, ◌⊎◌, inl, inr, Bool, true, false, cond, List, [], ◌∷◌, ◌++◌, length, Option, Some, None, refl, sym, ap, ◌∙◌, subst, arith}
-use Rattle.std.specs.Prelude.{slice_get, slice_set, slice_index}
+use Rattle.std.proofs.Common.{◌≡◌, ℕ, zero, suc, ◌+◌, ◌*◌, ◌^◌, ◌<◌, ◌≤◌, ◌⊎◌, true, false, List, [], ◌∷◌, length, Some, refl, sym, ap, ◌∙◌, subst, arith}
+use Rattle.std.specs.Prelude.{slice_get, slice_set}
 use Rattle.behaviour.specs.Behaviour.{Ending, Running, Wrong, Seen, Behaviour}
 use Rattle.work.specs.Units.{unit, ended}
 use Rattle.work.specs.Same.{Same}
@@ -24,21 +24,18 @@ use Rattle.rv_assemble.specs.declared.unit.AsmLine.{AsmLine}
 use Rattle.rv_machine.specs.declared.event.Event.{Event}
 use Rattle.rv_machine.specs.declared.event.Mode.{Mode}
 use Rattle.rv_machine.specs.declared.event.Mode.TheVariants as mode
-use Rattle.rv_machine.specs.Exec.{Run, turn, exec}
+use Rattle.rv_machine.specs.Exec.{Run, turn}
 use Rattle.image_run.specs.Behaviour.{seen, mode_ending}
-use Rattle.assembled_run.specs.Machine.{Leads, IsQuiet}
+use Rattle.assembled_run.specs.Machine.{Leads}
 use Rattle.emitted_code.specs.Frames.{Layout, home_of, is_charged}
 use Rattle.emitted_code.specs.Code.{rest_code, limit_code}
 use Rattle.emitted_code.specs.Room.{IsProc, CanEmit}
-use Rattle.emitted_code.proofs.Data.{Data, Small}
-use Rattle.emitted_code.proofs.Laws.{Laws, Went}
+use Rattle.emitted_code.specs.Placed.{AllBytes}
+use Rattle.emitted_code.proofs.Data.{Data}
+use Rattle.emitted_code.proofs.LineLaws.{Laws, Went}
 use Rattle.emitted_code.proofs.Steps.{shown, quietly, stepped, ends_so}
 use Rattle.emitted_code.proofs.Relate.{cells, Laid, at_alike, total, lay, Level, Body}
 use Rattle.emitted_code.proofs.Values.{Wrote, cells_written, body_written, set_low}
-
-abbrev pub AllBytes : List ℕ → Type 0
-AllBytes [] = Unit {0}
-AllBytes (b ∷ bs) = (b < 256) × AllBytes bs
 
 -- the run has taken and given what the world says, and bytes are left
 pub record Told (r : Run) (w : World) : Type 0 where

@@ -1,16 +1,15 @@
 -- Steps of the blocks and instructions of the machine, by what is seen of them.
-use Rattle.std.proofs.Common.{◌≡◌, ℕ, zero, suc, ◌+◌, ◌-◌, ◌*◌, ◌<◌, ◌≤◌, List, refl, sym, ap, ◌∙◌, subst, arith}
-use Rattle.behaviour.specs.Behaviour as R
-use Rattle.behaviour.specs.Behaviour.{Seen, Behaviour, Running, Wrong}
+use Rattle.std.proofs.Common.{◌≡◌, ℕ, zero, suc, ◌+◌, ◌≤◌, List, refl, sym, ap, ◌∙◌, subst, arith}
+use Rattle.behaviour.specs.Behaviour.{Seen, Behaviour}
 use Rattle.work.specs.Units.{unit, ended}
 use Rattle.work.specs.Same.{Same, Ready}
-use Rattle.work.proofs.Same.{less, dearer, alike, alike_first, constant, wrong, ready, later, later_ready, tick_ready}
+use Rattle.work.proofs.Same.{less, constant, ready, tick_ready}
 use Rattle.work.proofs.Leads as W
 use Rattle.rv_machine.specs.declared.event.Event.{Event}
 use Rattle.rv_machine.specs.declared.event.Mode.{Mode}
 use Rattle.rv_machine.specs.declared.event.Mode.TheVariants as mode
 use Rattle.rv_machine.specs.Exec.{Run, turn, exec}
-use Rattle.rv_machine.proofs.Laws.{exec_ended, exec_add}
+use Rattle.rv_machine.proofs.Laws.{exec_ended}
 use Rattle.image_run.specs.Behaviour.{seen, mode_ending}
 use Rattle.assembled_run.specs.Machine.{Leads, IsQuiet}
 

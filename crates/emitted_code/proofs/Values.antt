@@ -1,11 +1,11 @@
 -- Values in their homes: how code reads and writes them.
-use Rattle.std.proofs.Common.{◌≡◌, ℕ, zero, suc, ◌+◌, ◌-◌, ◌*◌, ◌/◌, ◌%◌, ◌^◌, ◌<◌, ◌≤◌, ◌⊎◌, inl, inr, Bool, true, false, cond, List, [], ◌∷◌, ◌++◌, length, Option, Some, None, refl, sym, ap, ◌∙◌, subst, arith, length-append}
-use Rattle.std.specs.Prelude.{nat_lt, nat_eq, ◌==◌, slice_get, slice_set, slice_index, Contains, All}
+use Rattle.std.proofs.Common.{◌≡◌, ℕ, suc, ◌+◌, ◌%◌, ◌^◌, ◌<◌, ◌≤◌, ◌⊎◌, inl, inr, true, false, cond, List, [], ◌∷◌, ◌++◌, length, refl, sym, ap, ◌∙◌, subst, arith}
+use Rattle.std.specs.Prelude.{◌==◌, slice_index, Contains, All}
 use Rattle.std.proofs.lemmas.Bool.Decides.{nat_tests, eqb_tells}
 use Rattle.flat_ir.specs.Bytes.{Bytes, number, put}
 use Rattle.flat_ir.specs.Placement.{Placement, heap_end}
 use Rattle.flat_ir.specs.Flat.{World}
-use Rattle.flat_ir.proofs.Framing.{poke_same, poke_apart, put_apart, put_bytes, number_alike, number_put_same, number_put_apart, number_small}
+use Rattle.flat_ir.proofs.Framing.{put_apart, put_bytes, number_put_same, number_put_apart, number_small}
 use Rattle.flatten.specs.declared.blocks.BlockInsn.{BlockInsn}
 use Rattle.flatten.specs.declared.blocks.BlockEnd.{BlockEnd}
 use Rattle.flatten.specs.declared.blocks.BlockProc.{BlockProc}
@@ -19,15 +19,15 @@ use Rattle.block_homes.specs.declared.homes.Assignment.{Assignment}
 use Rattle.block_homes.specs.Held.{place, places_of, uses_from}
 use Rattle.block_homes.specs.Homed.{Cells, value, set_value}
 use Rattle.block_homes.specs.Valid.{IsHome, InsnBelow}
-use Rattle.block_homes.proofs.Lockstep.{At, used, named_use, block_named, uses_append}
+use Rattle.block_homes.proofs.Lockstep.{At, named_use, block_named, uses_append}
 use Rattle.rv_assemble.specs.declared.unit.AsmLine.{AsmLine}
-use Rattle.emitted_code.specs.Straight.{Straight, AddImmediate, lines, load_word, store_word}
-use Rattle.emitted_code.specs.Frames.{Layout, home_of, save_at, slot_at, saved_of}
-use Rattle.emitted_code.specs.Code.{operand_register, fetch, result_register, settle, read, write}
+use Rattle.emitted_code.specs.Straight.{Straight, AddImmediate}
+use Rattle.emitted_code.specs.Frames.{Layout, home_of, slot_at, saved_of}
+use Rattle.emitted_code.specs.Code.{operand_register, fetch, result_register, read, write}
 use Rattle.emitted_code.specs.Room.{HasRoom}
-use Rattle.emitted_code.proofs.Data.{Data, set, act, acts, acts_append, IsTarget, Reach, Safe, AreSafe, safe_append, Gets, gets_one, Small, poke_small, Compared, same, other, compared}
-use Rattle.emitted_code.proofs.FrameWords.{Puts, gets_word, puts_word, word_few, store_few}
-use Rattle.emitted_code.proofs.Relate.{IsKept, In, at_home, cells, Laid, cell_home, save_low, kept_range, IsFree, free_kept, free_not, Stays, at_alike, Frame, frame_moved, homes_same, sizes, IsOwn, Suspended, depth, apart, Body, spans, top}
+use Rattle.emitted_code.proofs.Data.{Data, set, acts, IsTarget, Reach, AreSafe, Gets, gets_one, Small}
+use Rattle.emitted_code.proofs.FrameWords.{gets_word, puts_word}
+use Rattle.emitted_code.proofs.Relate.{IsKept, In, at_home, cells, Laid, cell_home, kept_range, IsFree, free_kept, free_not, Stays, at_alike, frame_moved, homes_same, IsOwn, Suspended, apart, Body, spans, top}
 
 -- a value that is used is there
 pub use_low : (f : BlockProc) (pl : List ℕ) (rest : List BlockInsn) (end : BlockEnd) (env : List ℕ) (c : Cells) → At f pl rest end env c → (v : ℕ) → Contains (uses_from rest end 0) v → v < f.values

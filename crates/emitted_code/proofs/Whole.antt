@@ -1,8 +1,7 @@
 -- Whole runs.
-use Rattle.std.proofs.Common.{◌≡◌, ℕ, zero, suc, ◌+◌, ◌-◌, ◌*◌, ◌/◌, ◌%◌, ◌^◌, ◌<◌, ◌≤◌, ◌⊎◌, inl, inr, Bool, true, false, cond, List, [], ◌∷◌, ◌++◌, length, take, Option, Some, None, refl, sym, ap, ◌∙◌, subst, arith, length-append}
+use Rattle.std.proofs.Common.{◌≡◌, ℕ, zero, suc, ◌+◌, ◌-◌, ◌*◌, ◌%◌, ◌^◌, ◌<◌, ◌≤◌, Bool, true, false, cond, List, [], ◌∷◌, ◌++◌, length, take, Option, Some, None, refl, sym, ap, ◌∙◌, subst, arith}
 use Rattle.std.specs.Prelude.{slice_get, slice_index, nat_eq, nat_lt, ◌||◌}
 use Rattle.std.proofs.lemmas.Bool.Decides.{nat_tests}
-use Rattle.behaviour.specs.Behaviour.{Running, Wrong, Behaviour}
 use Rattle.behaviour.specs.Follows.{Follows}
 use Rattle.work.specs.Same.{Same}
 use Rattle.work.proofs.Same.{nothing_yet, same_follows}
@@ -10,7 +9,6 @@ use Rattle.flat_ir.specs.declared.program.Operation.TheVariants as O
 use Rattle.flat_ir.specs.Bytes.{Bytes, number}
 use Rattle.flat_ir.specs.Ranges.{AreBytes}
 use Rattle.flat_ir.specs.Placement.{Placement, objects_at, heap_at, frames_at, heap_end, first_bytes, entry_arguments}
-use Rattle.flat_ir.specs.Flat as F
 use Rattle.flat_ir.specs.Flat.{World, starting}
 use Rattle.flat_ir.proofs.Framing.{poke_same, poke_apart}
 use Rattle.flatten.specs.declared.blocks.BlockInsn.{BlockInsn}
@@ -27,18 +25,18 @@ use Rattle.rv_assemble.specs.declared.unit.AsmLine.TheVariants.{Call}
 use Rattle.rv_machine.specs.declared.event.Mode.TheVariants as mode
 use Rattle.rv_machine.specs.Exec.{Run}
 use Rattle.assembled_run.proofs.Leads.{leads_then}
-use Rattle.emitted_code.specs.Straight.{Straight, Operate, lines, load_pair, upper, lower}
+use Rattle.emitted_code.specs.Straight.{Straight, Operate, load_pair, upper, lower}
 use Rattle.emitted_code.specs.Names.{proc_name}
-use Rattle.emitted_code.specs.Frames.{is_charged, frame_size, need}
+use Rattle.emitted_code.specs.Frames.{is_charged, frame_size}
 use Rattle.emitted_code.specs.Units.{first_size, start_lines}
-use Rattle.emitted_code.specs.Room.{IsProc, HasRoom}
-use Rattle.emitted_code.proofs.Data.{Data, set, acts, acts_append, AreSafe, safe_append, Gets, Small, poke_small}
+use Rattle.emitted_code.specs.Room.{IsProc}
+use Rattle.emitted_code.proofs.Data.{Data, set, acts, acts_append, safe_append, Gets, Small, poke_small}
 use Rattle.emitted_code.proofs.Constants.{pair_whole, gets_pair}
 use Rattle.emitted_code.proofs.Relate.{IsOwn}
-use Rattle.emitted_code.proofs.Laws.{Went, goes}
+use Rattle.emitted_code.proofs.LineLaws.{Went, goes}
 use Rattle.emitted_code.proofs.Args.{arg_at}
 use Rattle.emitted_code.proofs.Steps.{shown}
-use Rattle.emitted_code.proofs.States.{Told, told_after, seen_now, Given, at_places, going, Related, Again, Now, goes_wrong}
+use Rattle.emitted_code.proofs.States.{Told, seen_now, Given, at_places, going, Related, Again, Now, goes_wrong}
 use Rattle.emitted_code.proofs.Simple.{number_case, copy_case, binary_case, load_case, store_case, proc_address_case, image_address_case}
 use Rattle.emitted_code.proofs.Ends.{take_case, give_case, jump_case, branch_case, stop_case, limit_case}
 use Rattle.emitted_code.proofs.Returns.{return_case}

@@ -1,7 +1,6 @@
 -- The lines of assembly of a procedure. Each piece of code is put in front of the lines that follow it.
 -- Values live at their homes: registers that a callee keeps, or slots of the frame. x5, x6 and x7 are scratch; x6 is also what the assembler's far jumps use.
 use Rattle.std.specs.Prelude.{ℕ, zero, suc, ◌+◌, ◌-◌, ◌*◌, nat_lt, cond, Bool, true, false, List, [], ◌∷◌, ◌++◌, length}
-use Rattle.jf_base.specs.declared.numbers.Width.TheVariants.{W8}
 use Rattle.rv_isa.specs.declared.insn.Insn.TheVariants as M
 use Rattle.rv_assemble.specs.declared.unit.AsmLine.{AsmLine}
 use Rattle.rv_assemble.specs.declared.unit.AsmLine.TheVariants.{Label, Plain, Branch, Call, Address}

@@ -1,5 +1,5 @@
 -- The frame of a procedure: how large it is, and where its parts lie.
-use Rattle.std.specs.Prelude.{ℕ, zero, suc, ◌+◌, ◌-◌, ◌*◌, ◌/◌, ◌%◌, ◌==◌, nat_lt, not, ◌||◌, max, cond, Bool, true, false, List, [], ◌∷◌, length, Option, Some, None, slice_get}
+use Rattle.std.specs.Prelude.{ℕ, ◌+◌, ◌-◌, ◌*◌, ◌/◌, ◌==◌, nat_lt, not, ◌||◌, max, cond, Bool, false, List, [], ◌∷◌, length, Option, Some, None, slice_get}
 use Rattle.flatten.specs.declared.blocks.BlockInsn.{BlockInsn}
 use Rattle.flatten.specs.declared.blocks.BlockInsn.TheVariants as I
 use Rattle.flatten.specs.declared.blocks.Block.{Block}

@@ -1,5 +1,5 @@
 -- The names of units of assembly.
-use Rattle.std.specs.Prelude.{ℕ, ◌+◌, ◌/◌, ◌%◌, ◌^◌, List, [], ◌∷◌, codes}
+use Rattle.std.specs.Prelude.{ℕ, ◌+◌, ◌/◌, ◌%◌, ◌^◌, List, [], ◌∷◌}
 use Rattle.linker.specs.Names.{entry_name}
 
 -- a letter for each four bits

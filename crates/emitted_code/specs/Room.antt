@@ -1,5 +1,5 @@
 -- When the frames of a program suffice, and what else code asks of it.
-use Rattle.std.specs.Prelude.{ℕ, ◌≡◌, ◌≢◌, ◌≤◌, ◌<◌, ◌+◌, ◌%◌, ◌^◌, ◌⊎◌, Bool, true, false, List, length, Option, Some, slice_get}
+use Rattle.std.specs.Prelude.{ℕ, ◌≡◌, ◌≢◌, ◌≤◌, ◌<◌, ◌+◌, ◌%◌, ◌^◌, true, false, List, length, Some, slice_get}
 use Rattle.flat_ir.specs.declared.program.Fix.{Fix}
 use Rattle.flat_ir.specs.declared.program.Target.{Target}
 use Rattle.flat_ir.specs.declared.program.Target.TheVariants as T
@@ -71,6 +71,10 @@ InsnFits procs bytes (I.Call xs p ys) = (p < procs) × (length xs ≤ 2)
 InsnFits procs bytes (I.CallAt xs y ys) = length xs ≤ 2
 InsnFits procs bytes _ = Unit {0}
 
+abbrev pub TargetFits : (procs bytes : ℕ) → Target → Type 0
+TargetFits procs bytes (T.Proc p) = p < procs
+TargetFits procs bytes (T.Image n) = n ≤ bytes
+
 abbrev pub EndFits : BlockEnd → Type 0
 EndFits (E.Return ys) = length ys ≤ 2
 EndFits _ = Unit {0}
@@ -82,3 +86,4 @@ pub record CanEmit (q : BlockProgram) (assignments : List Assignment) : Type 0 w
   pub room : HasRoom q
   pub insns : (p : ℕ) (f : BlockProc) → IsProc q p f → (i : BlockInsn) → HasInsn f i → InsnFits (length q.procs) (length q.image) i
   pub ends : (p : ℕ) (f : BlockProc) → IsProc q p f → (e : BlockEnd) → HasEnd f e → EndFits e
+  pub fixes : (k : ℕ) (fix : Fix) → slice_get q.fixes k ≡ Some fix → TargetFits (length q.procs) (length q.image) fix.target

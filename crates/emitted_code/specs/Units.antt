@@ -1,5 +1,5 @@
 -- The units of assembly of a program: one for each procedure in their order, and a last one with the program's start and its image.
-use Rattle.std.specs.Prelude.{ℕ, zero, suc, ◌+◌, ◌-◌, cond, List, [], ◌∷◌, ◌++◌, map, Option, Some, None, slice_get}
+use Rattle.std.specs.Prelude.{ℕ, ◌+◌, ◌-◌, cond, List, [], ◌∷◌, ◌++◌, map, Option, Some, None, slice_get}
 use Rattle.rv_assemble.specs.declared.unit.AsmLine.{AsmLine}
 use Rattle.rv_assemble.specs.declared.unit.AsmLine.TheVariants.{Call}
 use Rattle.rv_assemble.specs.declared.unit.NamedFix.{NamedFix}
@@ -36,12 +36,12 @@ first_size (Some f) = cond (is_charged f) 0 (frame_size f)
 abbrev pub start_lines : ℕ → ℕ → List AsmLine
 start_lines first entry = lines (load_pair 3 (8192 - first) ++ (Operate O.Add 3 3 14 ∷ [])) (Call (proc_name entry) ∷ [])
 
+abbrev pub target_fix : ℕ → Target → NamedFix
+target_fix at (T.Proc p) = record { at = at; name = proc_name p; offset = 0 }
+target_fix at (T.Image n) = record { at = at; name = image_name; offset = image_place n }
+
 abbrev pub named_fix : Fix → NamedFix
 named_fix f = target_fix f.at f.target
-  where
-    target_fix : ℕ → Target → NamedFix
-    target_fix at (T.Proc p) = record { at = at; name = proc_name p; offset = 0 }
-    target_fix at (T.Image n) = record { at = at; name = image_name; offset = image_place n }
 
 abbrev pub image_unit : BlockProgram → AsmUnit
 image_unit q = record {

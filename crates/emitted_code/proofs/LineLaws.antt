@@ -1,5 +1,5 @@
 -- What a machine that has the code of units does with their lines, as far as code is concerned.
-use Rattle.std.proofs.Common.{◌≡◌, ℕ, zero, suc, ◌+◌, ◌-◌, ◌%◌, ◌^◌, ◌<◌, ◌≤◌, Bool, true, false, List, [], ◌∷◌, ◌++◌, length, Option, Some, None, refl, sym, ap, ◌∙◌, subst, arith}
+use Rattle.std.proofs.Common.{◌≡◌, ℕ, ◌+◌, ◌-◌, ◌%◌, ◌^◌, ◌<◌, ◌≤◌, List, [], ◌∷◌, ◌++◌, length, subst, arith}
 use Rattle.std.specs.Prelude.{slice_get}
 use Rattle.std.specs.Int.{w32, cast_signed}
 use Rattle.rv_isa.specs.declared.insn.Insn.TheVariants as M
@@ -7,10 +7,9 @@ use Rattle.rv_assemble.specs.declared.unit.AsmLine.{AsmLine}
 use Rattle.rv_assemble.specs.declared.unit.AsmLine.TheVariants.{Label, Plain, Branch, Call, Address}
 use Rattle.rv_machine.specs.declared.event.Event.TheVariants as event
 use Rattle.rv_machine.specs.declared.event.Mode.TheVariants as mode
-use Rattle.rv_machine.specs.Exec.{Run, turn, exec}
-use Rattle.assembled_run.specs.Machine.{Leads, IsQuiet}
+use Rattle.rv_machine.specs.Exec.{Run, turn}
+use Rattle.assembled_run.specs.Machine.{Leads}
 use Rattle.assembled_run.proofs.Leads.{leads_none, leads_then}
-use Rattle.flat_ir.specs.Flat.{first_byte}
 use Rattle.flat_ir.specs.Placement.{Placement, heap_end}
 use Rattle.flatten.specs.declared.blocks.BlockProc.{BlockProc}
 use Rattle.flatten.specs.declared.blocks.BlockProgram.{BlockProgram}
