@@ -1,7 +1,8 @@
 -- The scopes around an item by the rows of the table.
-use Rattle.std.proofs.Common.{◌≡◌, ℕ, zero, suc, ◌+◌, ◌<◌, ◌≤◌, ◌⊎◌, inl, inr, List, [], ◌∷◌, ◌++◌, length, map, reverse, refl, sym, ap, subst, ◌∙◌, arith, lit<}
+use Rattle.std.proofs.Common.{◌≡◌, ℕ, zero, suc, ◌+◌, ◌<◌, ◌≤◌, ◌⊎◌, inl, inr, List, [], ◌∷◌, ◌++◌, length, map, get_or, slice_get, Some, reverse, refl, sym, ap, subst, ◌∙◌, arith, lit<}
 use Rattle.std.proofs.lemmas.List.{get_or_append_left, get_or_past, length-append, append-nil, append_assoc}
 use Rattle.std.proofs.Math.Seq.{get_or-append_seam}
+use Rattle.std.proofs.lemmas.Option.{slice_get_within, get_or_from_slice_get}
 use Rattle.f_items.specs.declared.item.Item.{Item}
 use Rattle.f_items.specs.declared.item.Item.TheVariants.{Enter, Leave}
 use Rattle.f_items.specs.Places.{located, opened, closed, counted, around, innermost}
@@ -10,7 +11,7 @@ use Rattle.f_scope.specs.Tables.{declared_at}
 use Rattle.f_items.proofs.Single.{three}
 use Rattle.f_scope.specs.declared.placement.ScopeRow.{ScopeRow}
 use Rattle.f_scope.specs.declared.placement.Placed.{Placed}
-use Rattle.f_scope.specs.Rows.{outer_row, row_at, AreHosts, unit_in, host_in, chain, chain_of, seen, opened_rows, opened_at, closed_at, rows_after, placed_after}
+use Rattle.f_scope.specs.Rows.{outer_row, row_at, AreHosts, AreWithin, unit_in, host_in, chain, chain_of, seen, opened_rows, opened_at, closed_at, rows_after, placed_after}
 
 -- more steps than a scope's number change nothing
 pub enough : (rows : List ScopeRow) → AreHosts rows → (n m s : ℕ) → s ≤ n → s ≤ m → chain n rows s ≡ chain m rows s
@@ -56,7 +57,7 @@ chain-longer rows more h s lt = longer rows more h s s lt
 -- one more row
 pub one_more : (rows : List ScopeRow) (r : ScopeRow) → AreHosts rows → 0 < length rows → r.host < length rows → AreHosts (rows ++ r ∷ [])
 one_more rows r h some lt = record {
-  outer = ap (λ x. x.host) (kept rows (r ∷ []) 0 some) ∙ h.outer;
+  first = kept rows (r ∷ []) 0 some ∙ h.first;
   before = λ s. pick s (three (suc s) (length rows));
 } where
   pick : (s : ℕ) → (suc s < length rows) ⊎ ((suc s ≡ length rows) ⊎ (length rows < suc s)) → host_in (rows ++ r ∷ []) (suc s) ≤ s
@@ -111,7 +112,7 @@ ready_at rows s (Enter k place) r =
 ready_at rows s _ r = r
 
 around-chain : (rows : List ScopeRow) (s : ℕ) → AreHosts rows → chain_of rows (host_in rows s) ≡ around (chain_of rows s)
-around-chain rows zero h = ap (chain_of rows) h.outer ∙ chain-zero rows ∙ sym (ap around (chain-zero rows))
+around-chain rows zero h = ap (λ r. chain_of rows r.host) h.first ∙ chain-zero rows ∙ sym (ap around (chain-zero rows))
 around-chain rows (suc s) h = sym (ap around (chain-suc rows h s))
 
 pub closes : (rows : List ScopeRow) (s : ℕ) (i : Item) → Ready rows s → chain_of rows (closed_at rows s i) ≡ closed (chain_of rows s) i
@@ -119,7 +120,7 @@ closes rows s Leave r = around-chain rows s r.hosts
 closes rows s _ r = refl
 
 host_within : (rows : List ScopeRow) (s : ℕ) → Ready rows s → host_in rows s < length rows
-host_within rows zero r = let e = r.hosts.outer in let lt = r.some in omega (arith, e, lt)
+host_within rows zero r = let e : host_in rows 0 ≡ 0 = ap (λ x. x.host) r.hosts.first in let lt = r.some in omega (arith, e, lt)
 host_within rows (suc s) r = let le = r.hosts.before s in let lt = r.within in omega (arith, le, lt)
 
 pub ready_behind : (rows : List ScopeRow) (s : ℕ) (i : Item) → Ready rows s → Ready rows (closed_at rows s i)
@@ -162,7 +163,7 @@ follows rows s (i ∷ is) r =
 
 -- the table in which nothing began
 pub ready_first : Ready (outer_row ∷ []) 0
-ready_first = record { hosts = record { outer = refl; before = λ s. hosts s }; some = lit< tt; within = lit< tt } where
+ready_first = record { hosts = record { first = refl; before = λ s. hosts s }; some = lit< tt; within = lit< tt } where
   hosts : (s : ℕ) → host_in (outer_row ∷ []) (suc s) ≤ s
   hosts zero = omega arith
   hosts (suc s) = omega arith
@@ -214,3 +215,36 @@ rows_end rows s left e = ap (λ l. rows_after rows s (reverse l)) (sym e)
 pub placed_end : (rows : List ScopeRow) (s : ℕ) (left : List Item) (done : List Placed) → left ≡ [] → done ≡ done ++ placed_after rows s (reverse left)
 unfolding placed_after
 placed_end rows s left done e = sym (append-nil done) ∙ ap (λ l. done ++ placed_after rows s (reverse l)) (sym e)
+
+-- the kind of a scope
+pub kind_is : (rows : List ScopeRow) (s : ℕ) → AreHosts rows → (innermost (chain_of rows s)).kind ≡ (row_at rows s).kind
+kind_is rows zero h = ap (λ c. (innermost c).kind) (chain-zero rows) ∙ sym (ap (λ r. r.kind) h.first)
+kind_is rows (suc s) h = ap (λ c. (innermost c).kind) (chain-suc rows h s)
+
+-- the items stand in the scopes of the table
+pub within_after : (rows : List ScopeRow) (s : ℕ) (is : List Item) → Ready rows s → AreWithin (length (rows_after rows s is)) (placed_after rows s is)
+unfolding rows_after placed_after
+within_after rows s [] r = tt
+within_after rows s (i ∷ is) r =
+    let rows' = opened_rows rows s i in
+    let at = opened_at rows s i in
+    let r' : Ready rows' at = ready_at rows s i r in
+    let s' = closed_at rows' at i in
+    let behind = grows rows' s' is in
+    let long = length-append rows' behind.0 in
+    let e : length (rows_after rows' s' is) ≡ length (rows' ++ behind.0) = ap length behind.1 in
+    let lt = r'.within in
+    (omega (arith, lt, long, e), within_after rows' s' is (ready_behind rows' at i r'))
+
+pub within_from_first : (is : List Item) → AreWithin (length (rows_after (outer_row ∷ []) 0 is)) (placed_after (outer_row ∷ []) 0 is)
+within_from_first is = within_after (outer_row ∷ []) 0 is ready_first
+
+in_range : (n : ℕ) (x : Placed) (xs : List Placed) → AreWithin n xs → (k : ℕ) → k < length xs → (get_or xs k x).scope < n
+in_range n x [] w k lt = absurd (omega (arith, lt))
+in_range n x (y ∷ ys) w zero lt = w.0
+in_range n x (y ∷ ys) w (suc k) lt = in_range n x ys w.1 k (omega (arith, lt))
+
+pub within_at : (n : ℕ) (xs : List Placed) (k : ℕ) (x : Placed) → AreWithin n xs → slice_get xs k ≡ Some x → x.scope < n
+within_at n xs k x w e =
+    let P : Placed → Type 0 = λ y. y.scope < n in
+    subst P (get_or_from_slice_get xs k x x e) (in_range n x xs w k (slice_get_within xs k x e))

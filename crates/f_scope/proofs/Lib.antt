@@ -2,3 +2,4 @@ pub mod Chains
 pub mod Lookups
 pub mod Scans
 pub mod Units
+pub mod Modules

@@ -86,7 +86,7 @@ abbrev pub LookedBelow : List Located → ℕ → List ℕ → ℕ → Option En
 LookedBelow p s name n None = (j : ℕ) → j < n → IsNamed p s name j → ⊥
 LookedBelow p s name n (Some e) = Below p s name n e
 
-as_named : (p : List Located) (s : ℕ) (name : List ℕ) (j : ℕ) → IsDeclared p s name j → IsNamed p s name j
+pub as_named : (p : List Located) (s : ℕ) (name : List ℕ) (j : ℕ) → IsDeclared p s name j → IsNamed p s name j
 as_named p s name j i = record { item = i.item; declaration = i.declaration; at = i.at; declares = i.declares; scope_is = i.scope_is; name_is = i.name_is }
 
 -- a smaller number, or the next

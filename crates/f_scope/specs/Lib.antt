@@ -3,3 +3,5 @@ pub mod Tables
 pub mod Own
 pub mod UnitNames
 pub mod BuiltIn
+pub mod Program
+pub mod Begun

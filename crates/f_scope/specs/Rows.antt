@@ -1,5 +1,5 @@
 -- Scopes by their numbers in a table: each row has the kind of a scope and the number of the scope around it.
-use Rattle.std.specs.Prelude.{◌≡◌, ◌≤◌, ℕ, zero, suc, List, [], ◌∷◌, ◌++◌, length, ◌==◌, if◌then◌else◌, slice_index_or}
+use Rattle.std.specs.Prelude.{◌≡◌, ◌<◌, ◌≤◌, ℕ, zero, suc, List, [], ◌∷◌, ◌++◌, length, ◌==◌, if◌then◌else◌, slice_index_or}
 use Rattle.f_items.specs.declared.item.Item.{Item}
 use Rattle.f_items.specs.declared.item.Item.TheVariants.{Enter, Leave}
 use Rattle.f_items.specs.declared.item.ScopeKind.TheVariants as kind
@@ -35,10 +35,15 @@ chain_of rows s = chain s rows s
 abbrev pub seen : List ScopeRow → Placed → Located
 seen rows x = record { item = x.item; scopes = chain_of rows x.scope }
 
--- the scope around a scope began before it
+-- the first row is what is around the program units, and the scope around a scope began before it
 pub record AreHosts (rows : List ScopeRow) : Type 0 where
-  pub outer : host_in rows 0 ≡ 0
+  pub first : row_at rows 0 ≡ outer_row
   pub before : (s : ℕ) → host_in rows (suc s) ≤ s
+
+-- the items stand in so many scopes
+abbrev pub AreWithin : ℕ → List Placed → Type 0
+AreWithin n [] = Unit {0}
+AreWithin n (x ∷ xs) = (x.scope < n) × AreWithin n xs
 
 -- ---- how the table grows along items
 

@@ -4,11 +4,13 @@
 mod built_in;
 mod own;
 mod placement;
+mod program;
 mod table;
 mod unit_names;
 
 pub use built_in::before_program;
 pub use own::own_tables;
 pub use placement::{Placed, Placement, ScopeRow, place_items};
+pub use program::{Begun, Program, begin};
 pub use table::{Entry, Table};
 pub use unit_names::collect_unit_names;

@@ -1,8 +1,8 @@
 //! The scope of each item.
 
-ghost use Rattle.std.specs.Prelude.{◌≡◌, ◌++◌, [], IfOk, OnOk, map, reverse};
+ghost use Rattle.std.specs.Prelude.{◌≡◌, ◌++◌, [], IfOk, OnOk, length, map, reverse};
 ghost use Rattle.f_items.specs.Places.{located};
-ghost use Rattle.f_scope.specs.Rows.{opened_rows, opened_at, closed_at, rows_after, placed_after, seen, AreHosts};
+ghost use Rattle.f_scope.specs.Rows.{opened_rows, opened_at, closed_at, rows_after, placed_after, seen, AreHosts, AreWithin};
 
 use f_items::{Item, ScopeKind};
 use std::alloc::{AllocError, Global};
@@ -105,6 +105,7 @@ fn place_all(
 pub fn place_items(alloc: Global, items: Vec<Item>) -> Result<Placement, AllocError>
     ensures items { IfOk result (λ p. map (seen p.scopes.items) p.items.items ≡ located 1 [] items.items) }
     ensures hosts { IfOk result (λ p. AreHosts p.scopes.items) }
+    ensures within { IfOk result (λ p. AreWithin (length p.scopes.items) p.items.items) }
 {
     let mut scopes = Vec::new(alloc);
     scopes.push(ScopeRow {
