@@ -1,5 +1,5 @@
 -- What code asks of blocks, of those of a flat program.
-use Rattle.std.proofs.Common.{◌≡◌, ℕ, zero, suc, ◌+◌, ◌<◌, ◌≤◌, ◌^◌, List, [], ◌∷◌, ◌++◌, length, map, true, Some, refl, sym, ap, ◌∙◌, subst, arith}
+use Rattle.std.proofs.Common.{◌≡◌, ℕ, zero, suc, ◌+◌, ◌≤◌, List, [], ◌∷◌, ◌++◌, length, map, true, Some, refl, sym, subst, arith}
 use Rattle.std.specs.Prelude.{◌&&◌, nat_lt, nat_le, slice_get, All}
 use Rattle.std.specs.List.{list_all}
 use Rattle.std.proofs.lemmas.Bool.Decides.{nat_tests}
@@ -11,21 +11,21 @@ use Rattle.flat_ir.specs.declared.program.FlatProc.{FlatProc}
 use Rattle.flat_ir.specs.declared.program.FlatProgram.{FlatProgram}
 use Rattle.flat_ir.specs.Tree.{Expr, Num, Val, Bin, Load, ProcAt, ImageAt, Stmt, Skip, Seq, Set, Store, Call, CallAt, If, Loop, Break, Return, Take, Give, Stop, Limit, Procedure}
 use Rattle.flat_ir.specs.View.{proc_of, procs_of}
-use Rattle.flat_ir.specs.Checked.{expr_fits, exprs_fit, results_fit, stmt_fits, each_below, is_set_first, proc_fits, fix_fits, target_fits, all_apart, entry_fits, is_ok}
+use Rattle.flat_ir.specs.Checked.{expr_fits, exprs_fit, results_fit, stmt_fits, each_below, is_set_first, proc_fits, fix_fits, target_fits, all_apart, entry_fits}
 use Rattle.flatten.specs.declared.blocks.BlockInsn.{BlockInsn}
 use Rattle.flatten.specs.declared.blocks.BlockInsn.TheVariants as I
 use Rattle.flatten.specs.declared.blocks.BlockEnd.{BlockEnd}
 use Rattle.flatten.specs.declared.blocks.BlockEnd.TheVariants as E
 use Rattle.flatten.specs.declared.blocks.Block.{Block}
 use Rattle.flatten.specs.declared.blocks.BlockProc.{BlockProc}
-use Rattle.flatten.specs.Code.{only, before, place, expr_code, operand, operands, places_of, count, code, body_code, proc_code, program_code}
+use Rattle.flatten.specs.Code.{only, before, place, expr_code, operand, operands, places_of, count, code, proc_code, program_code}
 use Rattle.flatten.specs.Named.{Counts, InsnNamed, InsnsNamed, BlockNamed, BlocksNamed, ProcNamed, ProcsNamed}
 use Rattle.flatten.proofs.Named.{blocks_named}
 use Rattle.flatten.proofs.Values.{and_left, and_right, below}
 use Rattle.block_homes.specs.declared.homes.Assignment.{Assignment}
 use Rattle.block_homes.specs.Valid.{IsNamed}
 use Rattle.block_homes.proofs.Naming.{all_named}
-use Rattle.emitted_code.specs.Room.{IsProc, HasInsn, HasEnd, InsnFits, EndFits, TargetFits, CanEmit}
+use Rattle.emitted_code.specs.Room.{InsnFits, EndFits, TargetFits, CanEmit}
 use Rattle.emitted_code.specs.Chain.{NumberFits, Emits}
 
 -- at most two results

@@ -37,14 +37,14 @@ pub record Computes (low high rd v : ℕ) (d : Data) (xs : List Straight) : Type
   pub small : Small d.regs → Small (acts xs d).regs
 
 pub gets_computes : (low high rd v : ℕ) (d : Data) (xs : List Straight) → Gets low high rd v d xs → Computes low high rd v d xs
-gets_computes low high rd v d xs x = record { value = x.value; others = λ k n a. x.others k n (apart_seven k a); mem = x.mem; safe = x.safe; small = x.small }
+gets_computes lo hi rd v d xs x = record { value = x.value; others = λ k n a. x.others k n (apart_seven k a); mem = x.mem; safe = x.safe; small = x.small }
 
 pub apart_not : (k t : ℕ) → IsApart k → (5 ≤ t) × (t ≤ 7) → ¬ (k ≡ t)
 apart_not k t (inl a) b e = (let b0 = b.0 in omega arith)
 apart_not k t (inr a) b e = (let b1 = b.1 in omega arith)
 
 pub fetched_scratches : (low high t reg v : ℕ) (d : Data) (xs : List Straight) → (5 ≤ t) × (t ≤ 7) → Fetched low high t reg v d xs → Scratches low high d xs
-fetched_scratches low high t reg v d xs b x = record { others = λ k a. x.others k (apart_not k t a b) (apart_seven k a); mem = x.mem; safe = x.safe; small = x.small }
+fetched_scratches lo hi t reg v d xs b x = record { others = λ k a. x.others k (apart_not k t a b) (apart_seven k a); mem = x.mem; safe = x.safe; small = x.small }
 
 pub scratches_append : (low high : ℕ) (d : Data) (xs ys : List Straight) → Scratches low high d xs → Scratches low high (acts xs d) ys → Scratches low high d (xs ++ ys)
 scratches_append low high d xs ys a b =

@@ -17,7 +17,6 @@ use Rattle.block_homes.specs.declared.homes.Assignment.{Assignment}
 use Rattle.emitted_code.specs.Frames.{is_charged}
 use Rattle.emitted_code.specs.Units.{program_units}
 use Rattle.emitted_code.specs.Room.{CanEmit}
-use Rattle.emitted_code.specs.Room.{CanEmit}
 
 -- an entry that is charged nothing: nothing calls it, not even at an address
 abbrev pub is_free : Option BlockProc → Bool
