@@ -3,3 +3,4 @@ pub mod Lookups
 pub mod Scans
 pub mod Units
 pub mod Modules
+pub mod Broken

@@ -5,3 +5,4 @@ pub mod UnitNames
 pub mod BuiltIn
 pub mod Program
 pub mod Begun
+pub mod Alone

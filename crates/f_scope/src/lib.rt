@@ -2,6 +2,7 @@
 #![tactic(auto)]
 
 mod built_in;
+mod name_rule;
 mod own;
 mod placement;
 mod program;
@@ -9,6 +10,7 @@ mod table;
 mod unit_names;
 
 pub use built_in::before_program;
+pub use name_rule::{Rule, broken_by};
 pub use own::own_tables;
 pub use placement::{Placed, Placement, ScopeRow, place_items};
 pub use program::{Begun, Program, begin};

@@ -1,15 +1,17 @@
 //! A program whose scopes and declarations are known.
 
-ghost use Rattle.std.specs.Prelude.{◌≡◌, ◌<◌, [], IfOk};
+ghost use Rattle.std.specs.Prelude.{◌≡◌, ◌<◌, [], IfOk, slice_get};
 ghost use Rattle.std.specs.Option.{option_copied};
 ghost use Rattle.f_items.specs.Places.{located};
 ghost use Rattle.f_scope.specs.Own.{IsTold};
 ghost use Rattle.f_scope.specs.Program.{is_module_kind, module_of, module_at, told_of, outline_of, AreTables, ModuleFound};
 ghost use Rattle.f_scope.specs.Tables.{entry_at, table_at};
 ghost use Rattle.f_scope.specs.Begun.{IsBegun};
+ghost use Rattle.f_scope.specs.Alone.{broken_item, DeclarationFound};
 
+use crate::name_rule::{Rule, broken_by};
 use crate::own::own_tables;
-use crate::placement::{Placed, ScopeRow, place_items};
+use crate::placement::{Placed, ScopeRow, host_in, place_items};
 use crate::table::{Entry, Table};
 use crate::unit_names::collect_unit_names;
 use f_items::{Item, ScopeKind};
@@ -100,6 +102,43 @@ fn module_at(scopes: &[ScopeRow], items: &[Placed], entry: Option<Entry>) -> Opt
     }
 }
 
+/// What an item breaks by its declaration.
+fn broken_item(
+    scopes: &[ScopeRow],
+    own: &[Table],
+    item: Option<&Placed>,
+    place: usize,
+) -> Option<Rule>
+    ensures { result ≡ broken_item scopes.now own.now (option_copied item.entry) place }
+{
+    match item {
+        None => None,
+        Some(item) => match &item.item {
+            Item::Declares(declared) => broken_by(
+                entry_in(own, item.scope, declared.name.bytes.as_slice()),
+                place,
+                declared.share,
+            ),
+            Item::Heads(declared) => {
+                let host = host_in(scopes, item.scope);
+                broken_by(
+                    entry_in(own, host, declared.name.bytes.as_slice()),
+                    place,
+                    declared.share,
+                )
+            }
+            _ => None,
+        },
+    }
+}
+
+/// What the item at a place breaks by its declaration.
+fn broken_at(scopes: &[ScopeRow], own: &[Table], items: &[Placed], place: usize) -> Option<Rule>
+    ensures { result ≡ broken_item scopes.now own.now (slice_get items.now place) place }
+{
+    broken_item(scopes, own, items.get(place), place)
+}
+
 fn program_of(scopes: Vec<ScopeRow>, items: Vec<Placed>, own: Vec<Table>, units: Table) -> Program
     requires { AreTables scopes.items items.items own.items units }
     ensures { result ≡ outline_of scopes.items items.items }
@@ -119,6 +158,18 @@ impl Program {
         ensures { IsTold self.now.items scope name.now result }
     {
         told_of(entry_in(self.own.as_slice(), scope, name))
+    }
+
+    /// Which rule on declared names the declaration at an item, counted from 0, breaks: N01 before N02.
+    pub fn broken(&self, place: usize) -> Option<Rule>
+        ensures { DeclarationFound self.now.items place result }
+    {
+        broken_at(
+            self.scopes.as_slice(),
+            self.own.as_slice(),
+            self.items.as_slice(),
+            place,
+        )
     }
 
     /// The scope of the module with this name, if there is one.
