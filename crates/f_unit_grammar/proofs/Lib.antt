@@ -3,3 +3,4 @@ pub mod Begun
 pub mod Unique
 pub mod Viable
 pub mod Texts
+pub mod FirstRule

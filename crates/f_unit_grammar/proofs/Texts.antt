@@ -69,7 +69,7 @@ placed_is (Err NoPlace) p e = absurd (not_read Misplaced p e)
 placed_is (Err TooDeep) p e = absurd (not_read TooNested p e)
 
 -- a statement that is read has a form and a place
-abbrev IsRead : Open → Cut → Open → Type 0
+abbrev pub IsRead : Open → Cut → Open → Type 0
 IsRead o c p = (s : Statement) × HasForm c s × (step o s ≡ Ok p)
 
 form_of : (o p : Open) (c : Cut) (b : Bool) (f : Option Statement) → c.1 ≡ b → IfSome f (λ s. (c.0 ≡ spell_statement s) × FitsStatement 65 s) → formed o b f ≡ Ok p → IsRead o c p
@@ -77,7 +77,7 @@ form_of o p c true (Some s) b i e = (s, (b, i.1, i.0), placed_is (step o s) p e)
 form_of o p c true None b i e = absurd (not_read NoForm p e)
 form_of o p c false f b i e = absurd (not_read NoForm p e)
 
-cut_is : (o p : Open) (c : Cut) → read_cut o c ≡ Ok p → IsRead o c p
+pub cut_is : (o p : Open) (c : Cut) → read_cut o c ≡ Ok p → IsRead o c p
 unfolding read_cut
 cut_is o p c e = pick (deeper (depth_of o) 0 c.0) e
   where
@@ -85,7 +85,7 @@ cut_is o p c e = pick (deeper (depth_of o) 0 c.0) e
     pick true e = absurd (not_read TooNested p e)
     pick false e = form_of o p c c.1 (statement_at 65 c.0) refl (statement_sound 65 c.0) e
 
-run_step : (o p q : Open) (s : Statement) (ss : List Statement) → step o s ≡ Ok q → run q ss ≡ Ok p → run o (s ∷ ss) ≡ Ok p
+pub run_step : (o p q : Open) (s : Statement) (ss : List Statement) → step o s ≡ Ok q → run q ss ≡ Ok p → run o (s ∷ ss) ≡ Ok p
 unfolding run
 run_step o p q s ss e f = rw e f
 

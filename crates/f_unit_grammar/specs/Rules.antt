@@ -1,10 +1,10 @@
 -- The rules of a file's statements, over tokens: which token lists are files, and the first rule that is broken.
-use Rattle.std.specs.Prelude.{◌≡◌, ℕ, List, [], ◌∷◌, Option, Some, None, Result, Ok, Err, Bool, true, false, if◌then◌else◌}
+use Rattle.std.specs.Prelude.{◌≡◌, ℕ, List, [], ◌∷◌, ◌++◌, Option, Some, None, Result, Ok, Err, Bool, true, false, if◌then◌else◌}
 use Rattle.f_lex.specs.declared.token.Token.{Token}
 use Rattle.f_lex.specs.declared.token.Token.TheVariants as token
 use Rattle.f_statement_grammar.specs.Statements.{Statement, spell_statement, FitsStatement, statement_at}
 use Rattle.f_unit_grammar.specs.Units.{deeper, IsFile}
-use Rattle.f_unit_grammar.specs.Placing.{Broken, NoPlace, TooDeep, Open, step}
+use Rattle.f_unit_grammar.specs.Placing.{Broken, NoPlace, TooDeep, Open, step, Begins}
 
 -- a statement has a form (S01), it has a place (S02), and constructs and parentheses nest at most so deep (S03)
 pub data Rule : Type 0 where
@@ -68,3 +68,23 @@ and_read (Err r) cs more = Err (r, cs)
 unfoldable pub read_cuts : Open → List Cut → Result Open (Rule × List Cut)
 read_cuts o [] = Ok o
 read_cuts o (c ∷ cs) = and_read (read_cut o c) (c ∷ cs) (λ p. read_cuts p cs)
+
+-- ---- the first rule that is broken
+
+-- how a statement breaks a rule behind others: no statement is spelled so; or one is, and no file begins so; or no file begins so, whatever it is
+abbrev pub Breaks : List Statement → Cut → Rule → Type 0
+Breaks before c NoForm = (s : Statement) → HasForm c s → ⊥
+Breaks before c Misplaced = ((s : Statement) × HasForm c s) × ((s : Statement) → HasForm c s → (more : List Statement) → IsFile (before ++ s ∷ more) → ⊥)
+Breaks before c TooNested = (s : Statement) → HasForm c s → (more : List Statement) → IsFile (before ++ s ∷ more) → ⊥
+
+-- this rule is broken by the first of the statements that are left, and those before begin a file
+pub record FirstBroken (all : List Cut) (r : Rule) (left : List Cut) : Type 0 where
+  pub before : List Cut
+  pub broken : Cut
+  pub behind : List Cut
+  pub parts : all ≡ before ++ broken ∷ behind
+  pub is_left : left ≡ broken ∷ behind
+  pub statements : List Statement
+  pub forms : HaveForms before statements
+  pub begins : Begins statements
+  pub breaks : Breaks statements broken r

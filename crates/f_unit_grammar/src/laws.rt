@@ -5,7 +5,7 @@ ghost use Rattle.f_lex.specs.declared.token.Token.{Token};
 ghost use Rattle.f_statement_grammar.specs.Statements.{Statement};
 ghost use Rattle.f_unit_grammar.specs.Units.{IsFile};
 ghost use Rattle.f_unit_grammar.specs.Placing.{Open, Broken, step, run, at_file, Begins};
-ghost use Rattle.f_unit_grammar.specs.Rules.{IsText, cuts, read_cuts};
+ghost use Rattle.f_unit_grammar.specs.Rules.{Rule, Cut, IsText, cuts, read_cuts, FirstBroken};
 
 /// Each statement of a file has its place, and at the end of the file nothing is open.
 pub fn a_file_is_placed()
@@ -40,4 +40,9 @@ pub fn a_text_is_read()
 /// Tokens that break no rule of statements, with nothing open at their end, are those of a file.
 pub fn what_is_read_is_a_text()
     ensures { (ts : List Token) → read_cuts at_file (cuts ts) ≡ Ok at_file → IsText ts }
+{}
+
+/// The rule that reading stops at is the first that is broken: the statements before begin a file, and none that goes on so is one.
+pub fn the_first_broken_rule()
+    ensures { (ts : List Token) (r : Rule) (left : List Cut) → read_cuts at_file (cuts ts) ≡ Err (r, left) → FirstBroken (cuts ts) r left }
 {}
