@@ -3,10 +3,10 @@ use Rattle.std.proofs.Common.{◌≡◌, ℕ, ◌+◌, ◌≤◌, List, [], ◌�
 use Rattle.std.proofs.lemmas.Bool.{ltb-false}
 use Rattle.std.proofs.lemmas.List.{append_assoc, append-nil}
 use Rattle.f_declaration_grammar.specs.Declarations.{Program, Module, Head}
-use Rattle.f_statement_grammar.specs.Statements.{Statement, Executable, Declaring}
-use Rattle.f_unit_grammar.specs.Units.{State, File, counts, Role, stays, enters, leaves, none, role, Tree, single, nested, Trees, no_trees, tree, spell_tree, spell_trees, deepest, Stands, StandAll, IsFile}
+use Rattle.f_statement_grammar.specs.Statements.{Statement, Executable, Declaring, spell_statement}
+use Rattle.f_unit_grammar.specs.Units.{State, File, counts, Role, stays, enters, leaves, none, role, Tree, single, nested, Trees, no_trees, tree, spell_tree, spell_trees, deepest, Stands, StandAll, IsFile, deeper, IsShallow}
 use Rattle.f_unit_grammar.specs.Placing.{Broken, NoPlace, TooDeep, Open, step, and_on, run, at_file}
-use Rattle.f_unit_grammar.proofs.Placed.{step_by, file_placed, run_append, run_stops}
+use Rattle.f_unit_grammar.proofs.Placed.{step_by, step_deep, file_placed, run_append, run_stops}
 
 -- ---- trees with one more at the end
 
@@ -67,15 +67,15 @@ file_enters (Declaring _) k inner e = absurd (cc e)
 abbrev pub Begun : State → ℕ → Open → List Statement → Type 0
 Begun k d [] ss = (ts : Trees) × (k ≡ File) × (d ≡ 0) × StandAll 0 File ts File × (ss ≡ spell_trees ts [])
 Begun k d (o ∷ rest) ss = (before : List Statement) × (outer : State) × (head : Statement) × (inner : State) × (ts : Trees)
-    × Begun outer o.1 rest before × (role outer head ≡ enters o.0 inner) × (d ≡ o.1 + counts inner) × (d ≤ deepest) × StandAll d inner ts k × (ss ≡ before ++ head ∷ spell_trees ts [])
+    × Begun outer o.1 rest before × (IsShallow o.1 head × (role outer head ≡ enters o.0 inner)) × (d ≡ o.1 + counts inner) × (d ≤ deepest) × StandAll d inner ts k × (ss ≡ before ++ head ∷ spell_trees ts [])
 
 abbrev pub BegunAt : Open → List Statement → Type 0
 BegunAt [] ss = ⊥
 BegunAt (o ∷ rest) ss = Begun o.0 o.1 rest ss
 
 file_tree : (t : Tree) (d : ℕ) (after : State) → Stands d File t after → after ≡ File
-file_tree (single s) d after f = absurd (file_stays s after f)
-file_tree (nested head inside end) d after f = file_enters head after f.0 f.2
+file_tree (single s) d after f = absurd (file_stays s after f.1)
+file_tree (nested head inside end) d after f = file_enters head after f.0 f.3
 
 -- statements behind a head and trees, with one more tree
 extended : (before : List Statement) (head : Statement) (ts : Trees) (t : Tree) (ss : List Statement) → ss ≡ before ++ head ∷ spell_trees ts [] → ss ++ spell_tree t [] ≡ before ++ head ∷ spell_trees (and_last ts t) []
@@ -104,29 +104,33 @@ ok_is o p e = cc
 pub not_ok : (b : Broken) (p : Open) → let a : Result Open Broken = Err b in let c : Result Open Broken = Ok p in a ≡ c → ⊥
 not_ok b p e = cc
 
-left_begun : (k : State) (d : ℕ) (rest : Open) (ss : List Statement) (s : Statement) → Begun k d rest ss → role k s ≡ leaves → BegunAt rest (ss ++ s ∷ [])
-left_begun k d [] ss s b e = file_leaves s (subst (λ (x : State). role x s ≡ leaves) b.1 e)
-left_begun k d (o ∷ rest) ss s b e =
+left_begun : (k : State) (d : ℕ) (rest : Open) (ss : List Statement) (s : Statement) → Begun k d rest ss → IsShallow d s → role k s ≡ leaves → BegunAt rest (ss ++ s ∷ [])
+left_begun k d [] ss s b shallow e = file_leaves s (subst (λ (x : State). role x s ≡ leaves) b.1 e)
+left_begun k d (o ∷ rest) ss s b shallow e =
     let t : Tree = nested b.2 b.4 s in
     let room : o.1 + counts b.3 ≤ deepest = subst (λ (n : ℕ). n ≤ deepest) b.7 b.8 in
     let inside : StandAll (o.1 + counts b.3) b.3 b.4 k = subst (λ (n : ℕ). StandAll n b.3 b.4 k) b.7 b.9 in
     let same : b.0 ++ spell_tree t [] ≡ ss ++ s ∷ [] =
     ap (λ (l : List Statement). b.0 ++ b.2 ∷ l) (trees_apart b.4 (s ∷ [])) ∙ sym (append_assoc b.0 (b.2 ∷ spell_trees b.4 []) (s ∷ [])) ∙ sym (ap (λ (l : List Statement). l ++ s ∷ []) b.10) in
-    subst (Begun o.0 o.1 rest) same (add_tree rest b.1 o.1 o.0 t b.0 b.5 (b.3, k, b.6, room, inside, e))
+    subst (Begun o.0 o.1 rest) same (add_tree rest b.1 o.1 o.0 t b.0 b.5 (b.3, k, b.6.0, b.6.1, room, inside, subst (λ (n : ℕ). IsShallow n s) b.7 shallow, e))
 
 step_begun : (k : State) (d : ℕ) (rest : Open) (ss : List Statement) (s : Statement) (p : Open) → Begun k d rest ss → step ((k, d) ∷ rest) s ≡ Ok p → BegunAt p (ss ++ s ∷ [])
-step_begun k d rest ss s p b e = pick (role k s) refl
+step_begun k d rest ss s p b e = by_depth (deeper d 0 (spell_statement s)) refl
   where
-    full : (x : Bool) (o : Open) (inner after : State) → ltb deepest (d + counts inner) ≡ x → role k s ≡ enters after inner → cond x (Err TooDeep) (Ok ((inner, d + counts inner) ∷ (after, d) ∷ rest)) ≡ Ok p → BegunAt p (ss ++ s ∷ [])
-    full true o inner after t i c = absurd (not_ok TooDeep p c)
-    full false o inner after t i c = subst (λ (q : Open). BegunAt q (ss ++ s ∷ [])) (ok_is ((inner, d + counts inner) ∷ (after, d) ∷ rest) p c)
-        (ss, k, s, inner, no_trees, b, i, refl, ltb-false deepest (d + counts inner) t, refl, refl)
+    full : (x : Bool) (o : Open) (inner after : State) → ltb deepest (d + counts inner) ≡ x → IsShallow d s → role k s ≡ enters after inner → cond x (Err TooDeep) (Ok ((inner, d + counts inner) ∷ (after, d) ∷ rest)) ≡ Ok p → BegunAt p (ss ++ s ∷ [])
+    full true o inner after t h i c = absurd (not_ok TooDeep p c)
+    full false o inner after t h i c = subst (λ (q : Open). BegunAt q (ss ++ s ∷ [])) (ok_is ((inner, d + counts inner) ∷ (after, d) ∷ rest) p c)
+        (ss, k, s, inner, no_trees, b, (h, i), refl, ltb-false deepest (d + counts inner) t, refl, refl)
 
-    pick : (r : Role) → role k s ≡ r → BegunAt p (ss ++ s ∷ [])
-    pick (stays after) i = subst (λ (q : Open). BegunAt q (ss ++ s ∷ [])) (ok_is ((after, d) ∷ rest) p (sym (step_by k d rest s (stays after) i) ∙ e)) (add_tree rest k d after (single s) ss b i)
-    pick (enters after inner) i = full (ltb deepest (d + counts inner)) rest inner after refl i (sym (step_by k d rest s (enters after inner) i) ∙ e)
-    pick leaves i = subst (λ (q : Open). BegunAt q (ss ++ s ∷ [])) (ok_is rest p (sym (step_by k d rest s leaves i) ∙ e)) (left_begun k d rest ss s b i)
-    pick none i = absurd (not_ok NoPlace p (sym (step_by k d rest s none i) ∙ e))
+    pick : IsShallow d s → (r : Role) → role k s ≡ r → BegunAt p (ss ++ s ∷ [])
+    pick h (stays after) i = subst (λ (q : Open). BegunAt q (ss ++ s ∷ [])) (ok_is ((after, d) ∷ rest) p (sym (step_by k d rest s (stays after) h i) ∙ e)) (add_tree rest k d after (single s) ss b (h, i))
+    pick h (enters after inner) i = full (ltb deepest (d + counts inner)) rest inner after refl h i (sym (step_by k d rest s (enters after inner) h i) ∙ e)
+    pick h leaves i = subst (λ (q : Open). BegunAt q (ss ++ s ∷ [])) (ok_is rest p (sym (step_by k d rest s leaves h i) ∙ e)) (left_begun k d rest ss s b h i)
+    pick h none i = absurd (not_ok NoPlace p (sym (step_by k d rest s none h i) ∙ e))
+
+    by_depth : (x : Bool) → deeper d 0 (spell_statement s) ≡ x → BegunAt p (ss ++ s ∷ [])
+    by_depth true h = absurd (not_ok TooDeep p (sym (step_deep k d rest s h) ∙ e))
+    by_depth false h = pick h (role k s) refl
 
 pub run_begun : (ss : List Statement) (o p : Open) (before : List Statement) → BegunAt o before → run o ss ≡ Ok p → BegunAt p (before ++ ss)
 unfolding run

@@ -1,13 +1,17 @@
 -- Each statement of a tree that stands is placed.
-use Rattle.std.proofs.Common.{◌≡◌, ℕ, ◌+◌, ◌≤◌, List, [], ◌∷◌, ◌++◌, Result, Ok, Err, Bool, cond, refl, ap, ◌∙◌}
+use Rattle.std.proofs.Common.{◌≡◌, ℕ, ◌+◌, ◌≤◌, List, [], ◌∷◌, ◌++◌, Result, Ok, Err, Bool, true, cond, refl, ap, ◌∙◌}
 use Rattle.std.proofs.lemmas.Bool.{le-ltb}
-use Rattle.f_statement_grammar.specs.Statements.{Statement}
-use Rattle.f_unit_grammar.specs.Units.{State, File, counts, Role, stays, enters, leaves, role, Tree, single, nested, Trees, no_trees, tree, spell_tree, spell_trees, deepest, Stands, StandAll, IsFile}
+use Rattle.f_statement_grammar.specs.Statements.{Statement, spell_statement}
+use Rattle.f_unit_grammar.specs.Units.{State, File, counts, Role, stays, enters, leaves, role, Tree, single, nested, Trees, no_trees, tree, spell_tree, spell_trees, deepest, Stands, StandAll, IsFile, deeper, IsShallow}
 use Rattle.f_unit_grammar.specs.Placing.{Broken, TooDeep, Open, placed, step, and_on, run, at_file}
 
-pub step_by : (k : State) (d : ℕ) (rest : Open) (s : Statement) (r : Role) → role k s ≡ r → step ((k, d) ∷ rest) s ≡ placed r d rest
+pub step_by : (k : State) (d : ℕ) (rest : Open) (s : Statement) (r : Role) → IsShallow d s → role k s ≡ r → step ((k, d) ∷ rest) s ≡ placed r d rest
 unfolding step
-step_by k d rest s r e = ap (λ (x : Role). placed x d rest) e
+step_by k d rest s r shallow e = rw (shallow, e) refl
+
+pub step_deep : (k : State) (d : ℕ) (rest : Open) (s : Statement) → deeper d 0 (spell_statement s) ≡ true → step ((k, d) ∷ rest) s ≡ Err TooDeep
+unfolding step
+step_deep k d rest s e = rw e refl
 
 pub run_on : (o p : Open) (s : Statement) (ss : List Statement) → step o s ≡ Ok p → run o (s ∷ ss) ≡ run p ss
 unfolding run
@@ -22,14 +26,14 @@ has_room d inner after rest le = ap (λ (b : Bool). cond b (Err TooDeep) (Ok ((i
 
 mutual
   pub tree_placed : (t : Tree) (d : ℕ) (k after : State) (rest : Open) (more : List Statement) → Stands d k t after → run ((k, d) ∷ rest) (spell_tree t more) ≡ run ((after, d) ∷ rest) more
-  tree_placed (single s) d k after rest more f = run_on ((k, d) ∷ rest) ((after, d) ∷ rest) s more (step_by k d rest s (stays after) f)
+  tree_placed (single s) d k after rest more f = run_on ((k, d) ∷ rest) ((after, d) ∷ rest) s more (step_by k d rest s (stays after) f.0 f.1)
   tree_placed (nested head inside end) d k after rest more f =
       let inner = f.0 in
       let last = f.1 in
       let e = d + counts inner in
-      run_on ((k, d) ∷ rest) ((inner, e) ∷ (after, d) ∷ rest) head (spell_trees inside (end ∷ more)) (step_by k d rest head (enters after inner) f.2 ∙ has_room d inner after rest f.3)
-      ∙ trees_placed inside e inner last ((after, d) ∷ rest) (end ∷ more) f.4
-      ∙ run_on ((last, e) ∷ (after, d) ∷ rest) ((after, d) ∷ rest) end more (step_by last e ((after, d) ∷ rest) end leaves f.5)
+      run_on ((k, d) ∷ rest) ((inner, e) ∷ (after, d) ∷ rest) head (spell_trees inside (end ∷ more)) (step_by k d rest head (enters after inner) f.2 f.3 ∙ has_room d inner after rest f.4)
+      ∙ trees_placed inside e inner last ((after, d) ∷ rest) (end ∷ more) f.5
+      ∙ run_on ((last, e) ∷ (after, d) ∷ rest) ((after, d) ∷ rest) end more (step_by last e ((after, d) ∷ rest) end leaves f.6 f.7)
 
   pub trees_placed : (ts : Trees) (d : ℕ) (k after : State) (rest : Open) (more : List Statement) → StandAll d k ts after → run ((k, d) ∷ rest) (spell_trees ts more) ≡ run ((after, d) ∷ rest) more
   trees_placed no_trees d k after rest more f = ap (λ (x : State). run ((x, d) ∷ rest) more) f

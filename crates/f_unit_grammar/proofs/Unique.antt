@@ -14,8 +14,8 @@ Stops k [] = Unit {0}
 Stops k (s ∷ ss) = Halts (role k s)
 
 goes_on : (t : Tree) (d : ℕ) (k after : State) (rest : List Statement) → Stands d k t after → Stops k (spell_tree t rest) → ⊥
-goes_on (single s) d k after rest f h = subst Halts f h
-goes_on (nested head inside end) d k after rest f h = subst Halts f.2 h
+goes_on (single s) d k after rest f h = subst Halts f.1 h
+goes_on (nested head inside end) d k after rest f h = subst Halts f.3 h
 
 first_is : (s q : Statement) (ss qs : List Statement) → s ∷ ss ≡ q ∷ qs → (s ≡ q) × (ss ≡ qs)
 first_is s q ss qs e = (cc, cc)
@@ -36,18 +36,18 @@ mutual
   tree_one : (t u : Tree) (d e : ℕ) (k a b : State) (r q : List Statement) → Stands d k t a → Stands e k u b → spell_tree t r ≡ spell_tree u q → (t ≡ u) × (a ≡ b) × (r ≡ q)
   tree_one (single s) (single x) d e k a b r q f g is =
       let p = first_is s x r q is in
-      (ap single p.0, stays_is a b (same_role k s x (stays a) (stays b) p.0 f g), p.1)
+      (ap single p.0, stays_is a b (same_role k s x (stays a) (stays b) p.0 f.1 g.1), p.1)
   tree_one (single s) (nested head inside end) d e k a b r q f g is =
       let p = first_is s head r (spell_trees inside (end ∷ q)) is in
-      absurd (stays_enters a b g.0 (same_role k s head (stays a) (enters b g.0) p.0 f g.2))
+      absurd (stays_enters a b g.0 (same_role k s head (stays a) (enters b g.0) p.0 f.1 g.3))
   tree_one (nested head inside end) (single x) d e k a b r q f g is =
       let p = first_is head x (spell_trees inside (end ∷ r)) q is in
-      absurd (stays_enters b a f.0 (same_role k x head (stays b) (enters a f.0) (sym p.0) g f.2))
+      absurd (stays_enters b a f.0 (same_role k x head (stays b) (enters a f.0) (sym p.0) g.1 f.3))
   tree_one (nested head inside end) (nested first within last) d e k a b r q f g is =
       let p = first_is head first (spell_trees inside (end ∷ r)) (spell_trees within (last ∷ q)) is in
-      let n = enters_is a b f.0 g.0 (same_role k head first (enters a f.0) (enters b g.0) p.0 f.2 g.2) in
-      let g4 : StandAll (e + counts g.0) f.0 within g.1 = subst (λ (x : State). StandAll (e + counts g.0) x within g.1) (sym n.1) g.4 in
-      let o = trees_one inside within (d + counts f.0) (e + counts g.0) f.0 f.1 g.1 (end ∷ r) (last ∷ q) f.4 g4 (subst Halts (sym f.5) tt) (subst Halts (sym g.5) tt) p.1 in
+      let n = enters_is a b f.0 g.0 (same_role k head first (enters a f.0) (enters b g.0) p.0 f.3 g.3) in
+      let g4 : StandAll (e + counts g.0) f.0 within g.1 = subst (λ (x : State). StandAll (e + counts g.0) x within g.1) (sym n.1) g.5 in
+      let o = trees_one inside within (d + counts f.0) (e + counts g.0) f.0 f.1 g.1 (end ∷ r) (last ∷ q) f.5 g4 (subst Halts (sym f.7) tt) (subst Halts (sym g.7) tt) p.1 in
       let z = first_is end last r q o.2 in
       ((λ i. nested (p.0 i) (o.0 i) (z.0 i)), n.0, z.1)
 

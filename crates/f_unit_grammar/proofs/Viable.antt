@@ -4,10 +4,10 @@ use Rattle.f_line_grammar.specs.Lines as line
 use Rattle.f_line_grammar.specs.Lines.{Line}
 use Rattle.f_declaration_grammar.specs.Declarations as declared
 use Rattle.f_declaration_grammar.specs.Declarations.{Declared, OfType, OfInterface, OfModule}
-use Rattle.f_statement_grammar.specs.Statements.{Statement, Executable, Declaring}
-use Rattle.f_unit_grammar.specs.Units.{Part, Beginning, BehindImport, BehindImplicit, Executing, Scope, InProgram, InModule, InProcedure, InBody, State, File, InUnit, Containing, InType, InInterface, InIf, InElse, InDo, InSelectCase, InCase, InSelectRank, InRank, counts, Role, stays, enters, leaves, none, begun, if_role, else_role, do_role, cases_role, case_role, ranks_role, rank_role, leaves_if, stays_if, if_declares, use_role, import_role, implicit_role, contains_role, declared_role, executed_role, type_role, interface_role, containing_role, file_role, role, deepest}
+use Rattle.f_statement_grammar.specs.Statements.{Statement, Executable, Declaring, spell_statement}
+use Rattle.f_unit_grammar.specs.Units.{Part, Beginning, BehindImport, BehindImplicit, Executing, Scope, InProgram, InModule, InProcedure, InBody, State, File, InUnit, Containing, InType, InInterface, InIf, InElse, InDo, InSelectCase, InCase, InSelectRank, InRank, counts, Role, stays, enters, leaves, none, begun, if_role, else_role, do_role, cases_role, case_role, ranks_role, rank_role, leaves_if, stays_if, if_declares, use_role, import_role, implicit_role, contains_role, declared_role, executed_role, type_role, interface_role, containing_role, file_role, role, deepest, deeper, IsShallow}
 use Rattle.f_unit_grammar.specs.Placing.{Broken, NoPlace, TooDeep, Open, step, and_on, run, at_file, Begins}
-use Rattle.f_unit_grammar.proofs.Placed.{step_by, run_on, run_append}
+use Rattle.f_unit_grammar.proofs.Placed.{step_by, step_deep, run_on, run_append}
 use Rattle.f_unit_grammar.proofs.Begun.{Begun, BegunAt, at_start, file_enters, ok_is, not_ok, run_begun, placed_is_file}
 
 abbrev is_file : State → Bool
@@ -40,6 +40,21 @@ closes InSelectCase e = refl
 closes InCase e = refl
 closes InSelectRank e = refl
 closes InRank e = refl
+
+closes_shallow : (k : State) (d : ℕ) → IsShallow d (closer k)
+unfolding deeper
+closes_shallow File d = refl
+closes_shallow (InUnit u p) d = refl
+closes_shallow (Containing m) d = refl
+closes_shallow (InType name) d = refl
+closes_shallow InInterface d = refl
+closes_shallow InIf d = refl
+closes_shallow InElse d = refl
+closes_shallow InDo d = refl
+closes_shallow InSelectCase d = refl
+closes_shallow InCase d = refl
+closes_shallow InSelectRank d = refl
+closes_shallow InRank d = refl
 
 -- no file is inside
 abbrev IsInside : Role → Type 0
@@ -239,7 +254,7 @@ closed_all : (o : Open) → Inner o → run o (closing o) ≡ Ok (outermost o)
 closed_all [] i = run_nothing []
 closed_all (o ∷ []) i = run_nothing (o ∷ [])
 closed_all (o ∷ p ∷ rest) i =
-    run_on (o ∷ p ∷ rest) (p ∷ rest) (closer o.0) (closing (p ∷ rest)) (step_by o.0 o.1 (p ∷ rest) (closer o.0) leaves (closes o.0 i.0)) ∙ closed_all (p ∷ rest) i.1
+    run_on (o ∷ p ∷ rest) (p ∷ rest) (closer o.0) (closing (p ∷ rest)) (step_by o.0 o.1 (p ∷ rest) (closer o.0) leaves (closes_shallow o.0 o.1) (closes o.0 i.0)) ∙ closed_all (p ∷ rest) i.1
 
 -- where another state is innermost
 other_inner : (k a : State) (d : ℕ) (rest : Open) → Inner ((k, d) ∷ rest) → (is_file k ≡ false → is_file a ≡ false) → Inner ((a, d) ∷ rest)
@@ -257,18 +272,22 @@ enters_next : (k : State) (s : Statement) (a i : State) → role k s ≡ enters 
 enters_next k s a i e f = (subst IsInside e (role_inside k s f)).0
 
 step_inner : (k : State) (d : ℕ) (rest : Open) (s : Statement) (p : Open) → Inner ((k, d) ∷ rest) → step ((k, d) ∷ rest) s ≡ Ok p → Inner p
-step_inner k d rest s p i e = pick (role k s) refl
+step_inner k d rest s p i e = by_depth (deeper d 0 (spell_statement s)) refl
   where
     full : (x : Bool) (inner after : State) → role k s ≡ enters after inner → cond x (Err TooDeep) (Ok ((inner, d + counts inner) ∷ (after, d) ∷ rest)) ≡ Ok p → Inner p
     full true inner after r c = absurd (not_ok TooDeep p c)
     full false inner after r c = subst Inner (ok_is ((inner, d + counts inner) ∷ (after, d) ∷ rest) p c)
         (subst Enters r (role_enters k s), other_inner k after d rest i (enters_next k s after inner r))
 
-    pick : (r : Role) → role k s ≡ r → Inner p
-    pick (stays after) r = subst Inner (ok_is ((after, d) ∷ rest) p (sym (step_by k d rest s (stays after) r) ∙ e)) (other_inner k after d rest i (stays_next k s after r))
-    pick (enters after inner) r = full (ltb deepest (d + counts inner)) inner after r (sym (step_by k d rest s (enters after inner) r) ∙ e)
-    pick leaves r = subst Inner (ok_is rest p (sym (step_by k d rest s leaves r) ∙ e)) (left_inner k d rest i)
-    pick none r = absurd (not_ok NoPlace p (sym (step_by k d rest s none r) ∙ e))
+    pick : IsShallow d s → (r : Role) → role k s ≡ r → Inner p
+    pick h (stays after) r = subst Inner (ok_is ((after, d) ∷ rest) p (sym (step_by k d rest s (stays after) h r) ∙ e)) (other_inner k after d rest i (stays_next k s after r))
+    pick h (enters after inner) r = full (ltb deepest (d + counts inner)) inner after r (sym (step_by k d rest s (enters after inner) h r) ∙ e)
+    pick h leaves r = subst Inner (ok_is rest p (sym (step_by k d rest s leaves h r) ∙ e)) (left_inner k d rest i)
+    pick h none r = absurd (not_ok NoPlace p (sym (step_by k d rest s none h r) ∙ e))
+
+    by_depth : (x : Bool) → deeper d 0 (spell_statement s) ≡ x → Inner p
+    by_depth true h = absurd (not_ok TooDeep p (sym (step_deep k d rest s h) ∙ e))
+    by_depth false h = pick h (role k s) refl
 
 step_nothing : (s : Statement) (p : Open) → step [] s ≡ Ok p → ⊥
 unfolding step
@@ -292,12 +311,12 @@ outer_file : (p : State × ℕ) (rest : Open) (outer : State) (head : Statement)
 outer_file p [] outer head inner before b e =
     let f : p.0 ≡ File = file_enters head p.0 inner (subst (λ (x : State). role x head ≡ enters p.0 inner) b.1 e) in
     λ i. (f i, b.2 i) ∷ []
-outer_file p (r ∷ rest) outer head inner before b e = outer_file r rest b.1 b.2 b.3 b.0 b.5 b.6
+outer_file p (r ∷ rest) outer head inner before b e = outer_file r rest b.1 b.2 b.3 b.0 b.5 b.6.1
 
 begun_file : (o : Open) (before : List Statement) → BegunAt o before → outermost o ≡ at_file
 begun_file [] before b = absurd b
 begun_file (o ∷ []) before b = λ i. (b.1 i, b.2 i) ∷ []
-begun_file (o ∷ p ∷ rest) before b = outer_file p rest b.1 b.2 b.3 b.0 b.5 b.6
+begun_file (o ∷ p ∷ rest) before b = outer_file p rest b.1 b.2 b.3 b.0 b.5 b.6.1
 
 pub placed_begins : (before : List Statement) (o : Open) → run at_file before ≡ Ok o → Begins before
 placed_begins before o e =

@@ -1,7 +1,7 @@
 -- Placing statements one after the other.
 use Rattle.std.specs.Prelude.{ℕ, ◌+◌, List, [], ◌∷◌, ◌++◌, Result, Ok, Err, nat_lt, if◌then◌else◌}
-use Rattle.f_statement_grammar.specs.Statements.{Statement}
-use Rattle.f_unit_grammar.specs.Units.{State, File, counts, Role, stays, enters, leaves, none, role, deepest, IsFile}
+use Rattle.f_statement_grammar.specs.Statements.{Statement, spell_statement}
+use Rattle.f_unit_grammar.specs.Units.{State, File, counts, Role, stays, enters, leaves, none, role, deepest, IsFile, deeper}
 
 -- a statement has no place, or nests too deep
 pub data Broken : Type 0 where
@@ -20,7 +20,7 @@ placed none d rest = Err NoPlace
 
 unfoldable pub step : Open → Statement → Result Open Broken
 step [] s = Err NoPlace
-step (o ∷ rest) s = placed (role o.0 s) o.1 rest
+step (o ∷ rest) s = if deeper o.1 0 (spell_statement s) then Err TooDeep else placed (role o.0 s) o.1 rest
 
 abbrev pub and_on : Result Open Broken → (Open → Result Open Broken) → Result Open Broken
 and_on (Ok o) more = more o

@@ -1,12 +1,15 @@
 -- Which statements a file is made of (ISO/IEC 1539-1:2018, 5.1 to 5.3): a file is a list of trees, and a tree is a single statement, or a statement that
 -- begins something, what stands inside, and the statement that ends it. What may stand where is told by the innermost thing that is open.
-use Rattle.std.specs.Prelude.{◌≡◌, ℕ, ◌+◌, ◌≤◌, List, [], ◌∷◌, Option, Some, None, Bool, true, false, ◌&&◌, if◌then◌else◌}
+use Rattle.std.specs.Prelude.{◌≡◌, ℕ, zero, suc, nat_lt, ◌||◌, ◌+◌, ◌≤◌, List, [], ◌∷◌, Option, Some, None, Bool, true, false, ◌&&◌, if◌then◌else◌}
 use Rattle.std.specs.Str.{bytes_eq}
+use Rattle.f_lex.specs.declared.token.Mark.TheVariants as mark
+use Rattle.f_lex.specs.declared.token.Token.{Token}
+use Rattle.f_lex.specs.declared.token.Token.TheVariants as token
 use Rattle.f_line_grammar.specs.Lines as line
 use Rattle.f_line_grammar.specs.Lines.{Line}
 use Rattle.f_declaration_grammar.specs.Declarations.{Attr, Dimension, Entity, entity, NoInitial, Ended, OfProgram, OfModule, OfSubroutine, OfFunction, OfType, OfInterface, Declared}
 use Rattle.f_declaration_grammar.specs.Declarations as declared
-use Rattle.f_statement_grammar.specs.Statements.{Statement, Executable, Declaring}
+use Rattle.f_statement_grammar.specs.Statements.{Statement, Executable, Declaring, spell_statement}
 
 -- ---- what is open
 
@@ -253,15 +256,33 @@ abbrev mutual
   spell_trees no_trees rest = rest
   spell_trees (tree t ts) rest = spell_tree t (spell_trees ts rest)
 
--- how deep things nest
+-- how deep constructs, parentheses and brackets nest at most, all together
 abbrev pub deepest : ℕ
 deepest = 64
+
+abbrev pub fewer : ℕ → ℕ
+fewer zero = zero
+fewer (suc n) = n
+
+-- with so many constructs around, where so many parentheses and brackets are open, one stands deeper than that
+unfoldable pub deeper : ℕ → ℕ → List Token → Bool
+deeper d n [] = false
+deeper d n (token.Mark mark.Open ∷ ts) = nat_lt deepest (d + suc n) || deeper d (suc n) ts
+deeper d n (token.Mark mark.OpenBracket ∷ ts) = nat_lt deepest (d + suc n) || deeper d (suc n) ts
+deeper d n (token.Mark mark.Close ∷ ts) = deeper d (fewer n) ts
+deeper d n (token.Mark mark.CloseBracket ∷ ts) = deeper d (fewer n) ts
+deeper d n (t ∷ ts) = deeper d n ts
+
+-- the parentheses of a statement nest within that
+abbrev pub IsShallow : ℕ → Statement → Type 0
+IsShallow d s = deeper d 0 (spell_statement s) ≡ false
 
 -- A tree stands where this is open, with so many nestings around, and leaves that open so.
 abbrev mutual
   pub Stands : ℕ → State → Tree → State → Type 0
-  Stands d k (single s) after = role k s ≡ stays after
-  Stands d k (nested head inside end) after = (inner : State) × (last : State) × (role k head ≡ enters after inner) × (d + counts inner ≤ deepest) × StandAll (d + counts inner) inner inside last × (role last end ≡ leaves)
+  Stands d k (single s) after = IsShallow d s × (role k s ≡ stays after)
+  Stands d k (nested head inside end) after = (inner : State) × (last : State) × IsShallow d head × (role k head ≡ enters after inner) × (d + counts inner ≤ deepest)
+      × StandAll (d + counts inner) inner inside last × IsShallow (d + counts inner) end × (role last end ≡ leaves)
 
   pub StandAll : ℕ → State → Trees → State → Type 0
   StandAll d k no_trees after = k ≡ after

@@ -4,6 +4,7 @@
 mod laws;
 
 pub use laws::{
-    a_file_is_placed, one_file, what_has_no_place_begins_no_file, what_is_placed_begins_a_file,
-    what_is_placed_is_a_file,
+    a_file_is_placed, a_text_is_read, one_file, the_first_broken_rule,
+    what_has_no_place_begins_no_file, what_is_placed_begins_a_file, what_is_placed_is_a_file,
+    what_is_read_is_a_text,
 };
