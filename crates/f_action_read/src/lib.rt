@@ -7,3 +7,6 @@ mod mark;
 
 pub use action::{assigned, by_word, read_action, target};
 pub use mark::{arrow_at, assign_at, closed, comma, copied, opened, star};
+
+#[cfg(test)]
+mod tests;
