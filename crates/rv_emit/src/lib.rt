@@ -10,4 +10,5 @@ mod procedures;
 mod units;
 mod writer;
 
+pub use frame::frame_size;
 pub use units::emit;
