@@ -3,6 +3,7 @@
 ghost use Rattle.std.specs.Prelude.{IfOk, OnOk};
 ghost use Rattle.assembled_run.specs.Program.{IsImageOf};
 ghost use Rattle.emitted_code.specs.Units.{program_units};
+ghost use Rattle.emitted_units.specs.Sizes.{ProcsHeld};
 ghost use Rattle.emitted_units.specs.Units.{CanAssemble};
 ghost use Rattle.block_image.specs.Images.{AreAssigned, HoldTogether};
 
@@ -39,7 +40,7 @@ fn link_with(alloc: Global, q: &BlockProgram, assignments: &[Assignment]) -> Res
 
 /// The image of a program of blocks that holds together, and of a home for each value, which keeps it until its last use: that of its units.
 /// A program that lines of assembly can't hold is want of memory: one with more than 2^32 procedures, with a call of 2^32 arguments or 23 results,
-/// with a frame that ends beyond 64 bits, or with 2 gigabytes of code and image. That a run of the image follows the blocks is not proved here.
+/// with a frame that ends beyond 64 bits, or with 2 gigabytes of code and image.
 pub fn image_of_blocks(
     alloc: Global,
     q: &BlockProgram,
@@ -47,7 +48,8 @@ pub fn image_of_blocks(
 ) -> Result<Image, Memory>
     requires holds { HoldTogether q.now }
     requires assigned { AreAssigned q.now.procs assignments.now }
-    ensures { IfOk result (λ image. IsImageOf (program_units q.now assignments.now) image) }
+    ensures units { IfOk result (λ image. IsImageOf (program_units q.now assignments.now) image) }
+    ensures held { OnOk result (ProcsHeld q.now.procs) }
 {
     check(q, assignments)?;
     link_with(alloc, q, assignments)
