@@ -2,3 +2,5 @@ pub mod Values
 pub mod Puts
 pub mod Steps
 pub mod Sorted
+pub mod Rescanned
+pub mod Making

@@ -19,7 +19,7 @@ use Rattle.c_lines.specs.declared.rule.Rule.TheVariants as rule
 use Rattle.c_lines.specs.declared.header.Delimiter.TheVariants.{Angle, Quote}
 use Rattle.c_form.specs.Forms.{token_of, spelled_token}
 use Rattle.c_define.specs.Definitions.{Macros}
-use Rattle.c_define.specs.Expansion.{seen, body_of, behind as swapped, among, along, expansion, all_at}
+use Rattle.c_define.specs.Expansion.{seen, body_of, among, along, expansion, all_at}
 use Rattle.c_directives.specs.declared.condition.Expected.{Expected}
 use Rattle.c_directives.specs.declared.condition.Expected.TheVariants as expected
 use Rattle.c_condition.specs.Reading.{and_then}
@@ -118,11 +118,11 @@ stays : (ms : Macros) (t : CToken) → body_of ms.of t ≡ None → expansion ms
 unfolding expansion among along
 stays ms t e = pick ms.size
   where
-    pick : (k : ℕ) → swapped (among k ms.of (t ∷ [])) ≡ t ∷ []
+    pick : (k : ℕ) → among k ms.of (t ∷ []) ≡ t ∷ []
     pick zero = rw e refl
     pick (suc k) = rw e refl
 
-plain_stays : (ms : Macros) (t : CToken) → ((s : List ℕ) → t ≡ Id s → ⊥) → expansion ms (t ∷ []) ≡ t ∷ []
+pub plain_stays : (ms : Macros) (t : CToken) → ((s : List ℕ) → t ≡ Id s → ⊥) → expansion ms (t ∷ []) ≡ t ∷ []
 unfolding expansion
 plain_stays ms t n = pick t refl
   where

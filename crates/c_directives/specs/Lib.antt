@@ -5,3 +5,4 @@ pub mod Directives
 pub mod Conditions
 pub mod Reading
 pub mod Sorting
+pub mod Replacement
