@@ -98,3 +98,56 @@ fn what_gives_nothing_is_replaced_once(rt: HostRuntime) -> Result<(), Fail> {
     assert!(rt; !table.expand(alloc, &mut tokens, 3, Token::Name(199), PLACE)?);
     Ok(())
 }
+
+// Whether a name expands to nothing.
+fn is_nothing(alloc: Global, table: &mut MacroTable, name: usize) -> Result<bool, AllocError> {
+    let mut tokens: Vec<Spanned> = Vec::new(alloc);
+    let fits = table.expand(alloc, &mut tokens, 3, Token::Name(name), PLACE)?;
+    Ok(fits && tokens.is_empty())
+}
+
+#[test]
+fn new_names_leave_what_is_remembered(rt: HostRuntime) -> Result<(), Fail> {
+    let alloc = rt.alloc();
+    let mut table = doubling(alloc, 200)?;
+    for name in 200..400 {
+        assert!(rt; is_nothing(alloc, &mut table, 199)?);
+        table.define(alloc, name, [Token::Other(7)].to_vec(alloc)?)?;
+        assert!(rt; !is_nothing(alloc, &mut table, name)?);
+        table.undefine(name);
+    }
+    Ok(())
+}
+
+#[test]
+fn a_name_that_changes_is_replaced_anew(rt: HostRuntime) -> Result<(), Fail> {
+    let alloc = rt.alloc();
+    let mut table = doubling(alloc, 200)?;
+    assert!(rt; is_nothing(alloc, &mut table, 199)?);
+    table.define(alloc, 0, [Token::Other(7)].to_vec(alloc)?)?;
+    assert!(rt; !is_nothing(alloc, &mut table, 199)?);
+    table.define(alloc, 0, Vec::new(alloc))?;
+    assert!(rt; is_nothing(alloc, &mut table, 199)?);
+    Ok(())
+}
+
+// How many tokens a name puts out of at most 262,144, and whether that is all.
+fn put_out(
+    alloc: Global,
+    table: &mut MacroTable,
+    name: usize,
+) -> Result<(usize, bool), AllocError> {
+    let mut tokens: Vec<Spanned> = Vec::new(alloc);
+    let fits = table.expand(alloc, &mut tokens, 262_144, Token::Name(name), PLACE)?;
+    Ok((tokens.len(), fits))
+}
+
+#[test]
+fn a_bomb_ends_at_the_limit(rt: HostRuntime) -> Result<(), Fail> {
+    let alloc = rt.alloc();
+    let mut table = doubling(alloc, 64)?;
+    table.define(alloc, 0, [Token::Other(7)].to_vec(alloc)?)?;
+    assert_eq!(rt; put_out(alloc, &mut table, 18)?, (262_144, true));
+    assert_eq!(rt; put_out(alloc, &mut table, 63)?, (262_144, false));
+    Ok(())
+}
