@@ -248,3 +248,20 @@ assign_none left ts t e = is (sort_of t) e
     is (Some OfComma) q = refl
     is (Some (OfInfix o)) q = at_infix o
     is (Some (OfAssign o)) q = absurd cc
+
+-- ---- the height that binds next tighter
+
+only : (i j : Height) → Some i ≡ Some j → i ≡ j
+only i j e = cc
+
+pub rank-tighter : (k j : Height) → tighter k ≡ Some j → rank k ≡ suc (rank j)
+rank-tighter h.Multiplicative j e = absurd cc
+rank-tighter h.Additive j e = ap (λ (i : Height). suc (rank i)) (only h.Multiplicative j e)
+rank-tighter h.Shift j e = ap (λ (i : Height). suc (rank i)) (only h.Additive j e)
+rank-tighter h.Relational j e = ap (λ (i : Height). suc (rank i)) (only h.Shift j e)
+rank-tighter h.Equality j e = ap (λ (i : Height). suc (rank i)) (only h.Relational j e)
+rank-tighter h.BitAnd j e = ap (λ (i : Height). suc (rank i)) (only h.Equality j e)
+rank-tighter h.BitXor j e = ap (λ (i : Height). suc (rank i)) (only h.BitAnd j e)
+rank-tighter h.BitOr j e = ap (λ (i : Height). suc (rank i)) (only h.BitXor j e)
+rank-tighter h.And j e = ap (λ (i : Height). suc (rank i)) (only h.BitOr j e)
+rank-tighter h.Or j e = ap (λ (i : Height). suc (rank i)) (only h.And j e)

@@ -1,25 +1,22 @@
-//! Reading C's expressions, specifiers and declarators from tokens, with the names of types in scope (ISO/IEC 9899:2011, 6.5 and 6.7): the trees' views,
-//! single tokens, and trees made of their parts.
+//! Reading C's expressions, specifiers and declarators from tokens, with the names of types in scope (ISO/IEC 9899:2011, 6.5 and 6.7).
 #![tactic(auto)]
 
+mod chain;
+mod declarator;
 mod made;
 mod naming;
+mod operand;
 mod operator;
+mod read;
 mod run;
+mod specifier;
 mod word;
 
-pub use made::{
-    array, assignment, cast, chain, choice, commas, conditional, group, in_front, link, members,
-    open_array, parenthesized, postfix, prefix, size_of_expression, size_of_type, target, valued,
-};
 pub use naming::{is_typedef, name_of};
-pub use operator::{
-    assignment_at, binary_at, comma_joint, is_base, is_unary, prefix_at, question_at,
-    takes_operand,
+pub use read::{
+    read_assignment, read_constant, read_declarator, read_expression, read_nested_expression,
+    read_specifiers, read_typed,
 };
-pub use run::{marks, texts};
 pub use word::{
-    begins_postfix, begins_specifier, begins_suffix, braced, broken, closed, colon, comma_at, deep,
-    ended, ends_braces, ends_list, last_comma, needs_name, next_enumerator, number, opens_list,
-    squared, takes_name, void_at,
+    braced, broken, closed, colon, comma_at, deep, ended, ends_braces, last_comma, number,
 };

@@ -3,13 +3,13 @@
 ghost use Rattle.std.specs.Prelude.{◌≡◌, ◌∷◌, IfOk, map};
 ghost use Rattle.std.specs.Option.{option_map};
 ghost use Rattle.c_tree.specs.Heights.{rank};
-ghost use Rattle.c_grammar.specs.Grammar.{Paren, Postfix as PostfixOf, Prefix, SizeOfExpr, SizeOf, Cast, Chain, Infix, Choose, Assign, Group, OpenArray, Array, Valued, Members, member};
+ghost use Rattle.c_grammar.specs.Grammar.{Paren, Postfix as PostfixOf, Prefix, SizeOfExpr, SizeOf, Cast, Chain, Infix, Choose, Assign, Group, Function as FunctionOf, OpenArray, Array, Valued, Members, member};
 ghost use Rattle.c_grammar.specs.Reading.{chain, with_posts};
-ghost use Rattle.c_expression_read.specs.Views.{view, view_link, view_choice, view_target, view_postfix, view_typed, view_core, view_declarator, view_suffix, view_enumerator, view_members, links_of, posts_of, commas_of, decls_of, members, array_of, first_of, shifted};
+ghost use Rattle.c_expression_read.specs.Views.{view, view_link, view_choice, view_target, view_postfix, view_typed, view_core, view_declarator, view_suffix, view_enumerator, view_members, view_parameters, call_of, links_of, posts_of, commas_of, decls_of, members, array_of, first_of, shifted};
 
 use c_tree::{
     AssignOperator, BinaryOperator, Choice, Core, Declarator, Enumerator, Expr, Height, Link,
-    MemberDeclaration, Postfix, PrefixOperator, Suffix, Target, Typed,
+    MemberDeclaration, Parameters, Postfix, PrefixOperator, Suffix, Target, Typed,
 };
 use jf_base::{Boxed, List};
 use std::alloc::{AllocError, Global};
@@ -240,6 +240,23 @@ pub fn group(alloc: Global, inner: Declarator, at: u32) -> Result<Core, AllocErr
         inner: Boxed::new(alloc, inner)?,
         at,
     })
+}
+
+/// A call with these arguments.
+pub fn call(arguments: Vec<Expr>, at: u32) -> Postfix
+    ensures { view_postfix result ≡ call_of (map view arguments.items) }
+{
+    Postfix::Call {
+        arguments: List::from_vec(arguments),
+        at,
+    }
+}
+
+/// A function with these parameters.
+pub fn function(parameters: Parameters, at: u32) -> Suffix
+    ensures { view_suffix result ≡ FunctionOf (view_parameters parameters) }
+{
+    Suffix::Function { parameters, at }
 }
 
 fn array_of(length: Option<Boxed<Expr>>, at: u32) -> Suffix
