@@ -1,0 +1,120 @@
+//! What stands first among tokens, with the names in scope.
+//!
+//! Each function takes the number `end` of the token behind the last one of the unit, which the tokens reach to, and how many nestings are left; it
+//! declares in the scope what it reads. Where it answers with a fault, what stands in the scope is not told.
+
+ghost use Rattle.std.specs.Prelude.{◌≡◌, IfOk, length, map, false};
+ghost use Rattle.c_grammar.specs.Grammar.{after, after_specs, after_decl, after_typed};
+ghost use Rattle.c_grammar.specs.Reading.{Gives, inner, level_at, specs_at, decl_at, typed_at};
+ghost use Rattle.c_expression_read.specs.Views.{view, view_declarator, view_typed, view_specifier, specs_of};
+
+use crate::chain::{assignment, conditional, expression};
+use crate::declarator::{declarator, typed};
+use crate::operand::nested_expression;
+use crate::specifier::specifiers;
+use c_grammar::{Allowed, ReadError, Token};
+use c_scope::Scope;
+use c_tree::{Declarator, Expr, Specifier, Typed};
+use std::alloc::Global;
+
+/// The longest expression that stands first, and the tokens behind it (ISO/IEC 9899:2011, 6.5.17).
+pub fn read_expression<'a>(
+    alloc: Global,
+    end: u32,
+    depth: u32,
+    scope: &mut Scope,
+    tokens: &'a [Token],
+) -> Result<(Expr, &'a [Token]), ReadError>
+    ensures read { Gives (λ x. (view x.0, x.1.now)) result (level_at (inner depth) 13 scope.old tokens.now) }
+    ensures scope { IfOk result (λ x. scope.new ≡ after (view x.0) scope.old) }
+{
+    expression(alloc, end, depth, scope, tokens)
+}
+
+/// The expression that stands first, one nesting down, and the tokens behind it: one in parentheses or brackets.
+pub fn read_nested_expression<'a>(
+    alloc: Global,
+    end: u32,
+    depth: u32,
+    scope: &mut Scope,
+    tokens: &'a [Token],
+) -> Result<(Expr, &'a [Token]), ReadError>
+    ensures read { Gives (λ x. (view x.0, x.1.now)) result ((inner depth).expr 13 scope.old tokens.now) }
+    ensures scope { IfOk result (λ x. scope.new ≡ after (view x.0) scope.old) }
+{
+    nested_expression(alloc, end, depth, scope, tokens)
+}
+
+/// The longest assignment expression that stands first, and the tokens behind it (ISO/IEC 9899:2011, 6.5.16).
+pub fn read_assignment<'a>(
+    alloc: Global,
+    end: u32,
+    depth: u32,
+    scope: &mut Scope,
+    tokens: &'a [Token],
+) -> Result<(Expr, &'a [Token]), ReadError>
+    ensures read { Gives (λ x. (view x.0, x.1.now)) result (level_at (inner depth) 12 scope.old tokens.now) }
+    ensures scope { IfOk result (λ x. scope.new ≡ after (view x.0) scope.old) }
+{
+    assignment(alloc, end, depth, scope, tokens)
+}
+
+/// The longest constant expression that stands first, which is a conditional expression, and the tokens behind it (ISO/IEC 9899:2011, 6.6).
+pub fn read_constant<'a>(
+    alloc: Global,
+    end: u32,
+    depth: u32,
+    scope: &mut Scope,
+    tokens: &'a [Token],
+) -> Result<(Expr, &'a [Token]), ReadError>
+    ensures read { Gives (λ x. (view x.0, x.1.now)) result (level_at (inner depth) 11 scope.old tokens.now) }
+    ensures scope { IfOk result (λ x. scope.new ≡ after (view x.0) scope.old) }
+{
+    conditional(alloc, end, depth, scope, tokens)
+}
+
+/// The specifiers that stand first, one of them a base at least, and the tokens behind them (ISO/IEC 9899:2011, 6.7).
+pub fn read_specifiers<'a>(
+    alloc: Global,
+    end: u32,
+    depth: u32,
+    scope: &mut Scope,
+    tokens: &'a [Token],
+) -> Result<(Vec<Specifier>, &'a [Token]), ReadError>
+    ensures read { Gives (λ x. (specs_of (map view_specifier x.0.items), x.1.now)) result (specs_at (inner depth) (length tokens.now) false scope.old tokens.now) }
+    ensures scope { IfOk result (λ x. scope.new ≡ after_specs (specs_of (map view_specifier x.0.items)) scope.old) }
+{
+    specifiers(alloc, end, depth, scope, tokens)
+}
+
+/// The declarator that stands first, with a name or without, and the tokens behind it (ISO/IEC 9899:2011, 6.7.6 and 6.7.7). Its name isn't
+/// declared by it.
+pub fn read_declarator<'a>(
+    alloc: Global,
+    end: u32,
+    depth: u32,
+    allowed: Allowed,
+    scope: &mut Scope,
+    tokens: &'a [Token],
+) -> Result<(Declarator, &'a [Token]), ReadError>
+    ensures read { Gives (λ x. (view_declarator x.0, x.1.now)) result (decl_at (inner depth) allowed scope.old tokens.now) }
+    ensures scope { IfOk result (λ x. scope.new ≡ after_decl (view_declarator x.0) scope.old) }
+{
+    declarator(alloc, end, depth, allowed, scope, tokens)
+}
+
+/// The specifiers and the declarator that stand first, and the tokens behind them: the name of a type where the declarator has none
+/// (ISO/IEC 9899:2011, 6.7.7).
+pub fn read_typed<'a>(
+    alloc: Global,
+    end: u32,
+    depth: u32,
+    allowed: Allowed,
+    scope: &mut Scope,
+    tokens: &'a [Token],
+) -> Result<(Typed, &'a [Token]), ReadError>
+    ensures read { Gives (λ x. (view_typed x.0, x.1.now)) result (typed_at (inner depth) allowed scope.old tokens.now) }
+    ensures scope { IfOk result (λ x. scope.new ≡ after_typed (view_typed x.0) scope.old) }
+{
+    typed(alloc, end, depth, allowed, scope, tokens)
+}
