@@ -1,2 +1,0 @@
-pub mod LineTurns
-pub mod Whole
