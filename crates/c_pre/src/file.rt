@@ -42,7 +42,7 @@ fn fault_of(stop: Stop) -> PreFault
 /// broken; or else the first broken rule of `P01` to `P10` in the order in which the text is read, or the name of a file that couldn't be read before that.
 /// `file` is the number of the file, and `before` how many tokens the files before have; its name isn't asked, since an `#include` reads from the library
 /// by its own name. What a macro or an included text gives has the place of the macro's name or of the `#include` in this file. It takes time in proportion
-/// to the text and to what it expands to.
+/// to the text, to the tokens that it gives, and to those of the bodies that are replaced.
 pub fn expand<L: Library>(
     alloc: Global,
     file: u16,
