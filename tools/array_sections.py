@@ -5,7 +5,10 @@ gfortran's array holds where it begins, so gfortran prints the third column. Whe
 stride is 0, the row says `none`, and gfortran isn't asked.
 `array_sections.py --check` compares the file with what would be printed.
 """
-import os, subprocess, sys, tempfile
+import os
+import sys
+
+from fortran_rows import run
 
 FILE = os.path.join(os.path.dirname(os.path.abspath(__file__)), "..", "crates", "array_view", "src", "tests", "rows.rt")
 ONES = " ".join(["1:1"] * 6)
@@ -76,18 +79,6 @@ def block(bounds, subs):
         size *= extent
     reference = ", ".join(map(in_fortran, subs))
     return ["block", "integer :: i", f"integer :: a({declared})", f"a = reshape([(4 * i, i = 0, {size - 1})], {shape})", f"write (*, '(*(I0, 1X))') a({reference})", "end block"]
-
-
-def run(blocks):
-    with tempfile.TemporaryDirectory() as folder:
-        source = os.path.join(folder, "rows.f90")
-        with open(source, "w") as out:
-            out.write("\n".join(["program rows"] + [line for lines in blocks for line in lines] + ["end program"]) + "\n")
-        program = os.path.join(folder, "rows")
-        subprocess.run(["gfortran", "-std=f2018", "-O0", "-w", "-ffree-line-length-none", "-o", program, source], check=True)
-        lines = subprocess.run([program], check=True, capture_output=True, text=True).stdout.splitlines()
-    assert len(lines) == len(blocks), (len(lines), len(blocks))
-    return lines
 
 
 def rows():

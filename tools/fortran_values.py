@@ -5,7 +5,11 @@ more than the width) the row says so in a word, by exact arithmetic, and gfortra
 at what -1 leaves of the least number, which is 0.
 `fortran_values.py --check` compares the file with what would be printed.
 """
-import os, re, subprocess, sys, tempfile
+import os
+import re
+import sys
+
+from fortran_rows import run
 
 FILE = os.path.join(os.path.dirname(os.path.abspath(__file__)), "..", "crates", "f_value", "src", "tests", "rows.rt")
 COMPARISONS = ["==", "/=", "<", "<=", ">", ">="]
@@ -95,19 +99,6 @@ def block(kind, a, other_kind, b, text):
         lines[2:2] = [f"integer({other_kind}), volatile :: b"]
         lines += [f"b = {number(b, other_kind)}"]
     return lines + [f"write (*, '(I0)') {text}", "end block"]
-
-
-def run(blocks):
-    """What gfortran prints for the blocks, a line each."""
-    with tempfile.TemporaryDirectory() as folder:
-        source = os.path.join(folder, "rows.f90")
-        with open(source, "w") as out:
-            out.write("\n".join(["program rows"] + [line for lines in blocks for line in lines] + ["end program"]) + "\n")
-        program = os.path.join(folder, "rows")
-        subprocess.run(["gfortran", "-O0", "-w", "-o", program, source], check=True)
-        lines = subprocess.run([program], check=True, capture_output=True, text=True).stdout.splitlines()
-    assert len(lines) == len(blocks), (len(lines), len(blocks))
-    return lines
 
 
 def answered(rows, between=" "):

@@ -10,6 +10,7 @@ use Rattle.flatten.specs.Code.{program_code}
 use Rattle.block_homes.specs.declared.homes.Assignment.{Assignment}
 use Rattle.emitted_units.specs.Sizes.{ProcsHeld}
 use Rattle.emitted_code.specs.Units.{program_units}
+use Rattle.emitted_code.specs.Placed.{AllBytes}
 use Rattle.emitted_code.specs.Room.{HasRoom}
 use Rattle.emitted_code.specs.Chain.{Emits, ImagesFollowFlatPrograms}
 use Rattle.block_image.specs.Images.{AreAssigned}
@@ -27,19 +28,19 @@ emits p hs ok room assigned held = record {
 }
 
 pub followed : ImagesFollowFlatPrograms → (p : FlatProgram) (hs : List Assignment) (image : Image) → is_ok p ≡ true → HasRoom (program_code p) → AreAssigned (program_code p).procs hs → ProcsHeld (program_code p).procs
-    → IsImageOf (program_units (program_code p) hs) image → IsFollowed p image
-followed follow p hs image ok room assigned held made = record {
+    → IsImageOf (program_units (program_code p) hs) image → AllBytes image.bytes → IsFollowed p image
+followed follow p hs image ok room assigned held made bytes = record {
   homes = hs;
   objects = made.0;
   linked = made.1;
-  follows = λ bytes limits ranges input fresh. follow p hs made.0 image (emits p hs ok room assigned held) made.1 bytes limits ranges input fresh;
+  follows = λ limits ranges input fresh. follow p hs made.0 image (emits p hs ok room assigned held) made.1 bytes limits ranges input fresh;
 }
 
 pub chained : ImagesFollowFlatPrograms → (p : FlatProgram) (q : BlockProgram) (hs : List Assignment) (r : Result Image Memory) → q ≡ program_code p → is_ok p ≡ true → HasRoom (program_code p) → AreAssigned q.procs hs
-    → IfOk r (λ image. IsImageOf (program_units q hs) image) → OnOk r (ProcsHeld q.procs) → IfOk r (λ image. IsFollowed p image)
-chained follow p q hs (Ok image) e ok room assigned made held =
+    → IfOk r (λ image. IsImageOf (program_units q hs) image) → OnOk r (ProcsHeld q.procs) → IfOk r (λ image. AllBytes image.bytes) → IfOk r (λ image. IsFollowed p image)
+chained follow p q hs (Ok image) e ok room assigned made held bytes =
     let A : BlockProgram → Type 0 = λ q. AreAssigned q.procs hs in
     let H : BlockProgram → Type 0 = λ q. ProcsHeld q.procs in
     let M : BlockProgram → Type 0 = λ q. IsImageOf (program_units q hs) image in
-    followed follow p hs image ok room (subst A e assigned) (subst H e held) (subst M e made)
-chained follow p q hs (Err x) e ok room assigned made held = tt
+    followed follow p hs image ok room (subst A e assigned) (subst H e held) (subst M e made) bytes
+chained follow p q hs (Err x) e ok room assigned made held bytes = tt

@@ -1,3 +1,4 @@
 pub mod Checked
 pub mod Assigned
 pub mod Composed
+pub mod Sufficing

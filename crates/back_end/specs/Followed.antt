@@ -20,11 +20,10 @@ use Rattle.emitted_code.specs.Placed.{placed, pace, AllBytes}
 abbrev pub instructions : FlatProgram → ℕ
 instructions p = pace (program_code p) * (sizes_of (procs_of p.procs) + 1)
 
--- The image is that of units that were assembled and linked. Each of its bytes being one, it shows for all limits in range and every input what the program shows
--- that lies where these units came to lie.
+-- The image is that of units that were assembled and linked. It shows for all limits in range and every input of bytes what the program shows that lies where these units came to lie.
 pub record IsFollowed (p : FlatProgram) (image : Image) : Type 0 where
   pub homes : List Assignment
   pub objects : List ObjUnit
   pub linked : AreLinked (program_units (program_code p) homes) objects image
-  pub follows : AllBytes image.bytes → (limits : Limits) → AreLimits limits → (input : List ℕ) → AllBytes input
+  pub follows : (limits : Limits) → AreLimits limits → (input : List ℕ) → AllBytes input
       → Follows (instructions p) (image_behaviour image limits input) (flat p (placed (program_code p) objects limits) input)

@@ -4,3 +4,6 @@
 mod chain;
 
 pub use chain::image_of_flat;
+
+#[cfg(test)]
+mod tests;

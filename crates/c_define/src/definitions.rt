@@ -164,8 +164,8 @@ impl Definitions {
     }
 
     /// Puts out what a name expands to (ISO/IEC 9899:2011, 6.10.3.4), or answers false where that is more than there is room for. Each token that is
-    /// put out has the place that is given. It takes as many steps as macros are replaced and tokens are put out. Nothing is said of the macros where it
-    /// answers false.
+    /// put out has the place that is given. It takes as many steps as the replacement lists that are gone through have tokens, where a macro that was seen
+    /// to expand to nothing is passed over, and as the tokens that are put out have bytes. Nothing is said of the macros where it answers false.
     pub fn expand(
         &mut self,
         alloc: Global,

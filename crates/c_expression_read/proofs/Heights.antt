@@ -8,8 +8,8 @@ use Rattle.c_tree.specs.declared.operator.Height.{Height}
 use Rattle.c_tree.specs.declared.operator.Height.TheVariants as h
 use Rattle.c_tree.specs.Heights.{height_of, rank, tighter}
 use Rattle.c_grammar.specs.declared.token.Token.{Token}
-use Rattle.c_grammar.specs.Grammar.{Expr, Sort, OfInfix, OfChoice, OfAssign, OfComma, sort_of, sort_height, infix_height, is_unary}
-use Rattle.c_grammar.specs.Reading.{link_at, picked, may_join}
+use Rattle.c_grammar.specs.Grammar.{Expr, Sort, OfInfix, OfChoice, OfAssign, OfComma, sort_of, infix_height, is_unary}
+use Rattle.c_grammar.specs.Reading.{link_at, picked}
 use Rattle.c_expression_read.specs.Gives.{infix_of, assign_of}
 
 -- the height of an operator is the number of its production

@@ -1,4 +1,5 @@
 pub mod Chains
+pub mod Entries
 pub mod Heights
 pub mod Levels
 pub mod Loops

@@ -1,9 +1,8 @@
 -- Tokens of one kind side by side.
-use Rattle.std.proofs.Common.{◌≡◌, ℕ, suc, ◌<◌, List, [], ◌∷◌, ◌++◌, length, Option, Some, None, refl, sym, ap, ◌∙◌, append_assoc, arith}
+use Rattle.std.proofs.Common.{◌≡◌, ℕ, ◌<◌, List, [], ◌∷◌, ◌++◌, length, Some, None, refl, ap, ◌∙◌, append_assoc, arith}
 use Rattle.std.proofs.lemmas.List.{append-nil}
 use Rattle.c_tree.specs.declared.operator.PointerMark.{PointerMark}
 use Rattle.c_tree.specs.declared.operator.PointerMark.TheVariants as mark
-use Rattle.c_tree.specs.declared.operator.SpecifierWord.{SpecifierWord}
 use Rattle.c_tree.specs.declared.operator.SpecifierWord.TheVariants as word
 use Rattle.c_grammar.specs.declared.token.Token.{Token}
 use Rattle.c_grammar.specs.declared.token.Token.TheVariants as token

@@ -1,16 +1,21 @@
 -- What a reader that takes memory answers, beside what is read.
-use Rattle.std.specs.Prelude.{ℕ, List, [], ◌∷◌, length, Option, Some, None, Ok, Bool, true, false, if◌then◌else◌}
+use Rattle.std.specs.Prelude.{ℕ, List, [], ◌∷◌, length, Option, Some, None, Result, Ok, Bool, true, false, if◌then◌else◌}
 use Rattle.c_tree.specs.declared.expression.Specifier.{Specifier}
 use Rattle.c_tree.specs.declared.operator.AssignOperator.{AssignOperator}
 use Rattle.c_tree.specs.declared.operator.BinaryOperator.{BinaryOperator}
 use Rattle.c_tree.specs.declared.operator.PointerMark.{PointerMark}
 use Rattle.c_tree.specs.declared.operator.PointerMark.TheVariants as mark
 use Rattle.c_tree.specs.declared.operator.SpecifierWord.TheVariants as word
+use Rattle.c_grammar.specs.declared.fault.ReadError.{ReadError}
 use Rattle.c_grammar.specs.declared.token.Token.{Token}
 use Rattle.c_grammar.specs.declared.token.Token.TheVariants as token
 use Rattle.c_grammar.specs.declared.token.Allowed.TheVariants.{Named}
 use Rattle.c_grammar.specs.Grammar.{Sort, OfInfix, OfAssign, Expr, Texts, Post, Call, Typed, Decls, Suffix, after_typed}
-use Rattle.c_grammar.specs.Reading.{◌>>=◌, Read, Reader, Inner, broken, texts_at, decls_at, semi_at, array_at, function_at}
+use Rattle.c_grammar.specs.Reading.{◌>>=◌, Gives, Read, Reader, Inner, broken, texts_at, decls_at, semi_at, array_at, function_at}
+
+-- What a function returned, seen by view, is this tree before this rest, unless memory ran out.
+abbrev pub IsReadAs : {X Y : Type 0} → Y → List Token → (X → Y × List Token) → Result X ReadError → Type 0
+IsReadAs tree rest view result = Gives view result (Ok (tree, rest))
 
 -- elements in front of others
 abbrev pub onto : {E L : Type 0} → (E → L → L) → List E → L → L

@@ -1,6 +1,5 @@
 -- The trees of expressions, specifiers and declarators as the grammar has them, without the numbers of their tokens.
 use Rattle.std.specs.Prelude.{ℕ, List, [], ◌∷◌, Bool, Option, Some, None}
-use Rattle.std.specs.Option.{option_map}
 use Rattle.c_tree.specs.Heights.{rank}
 use Rattle.c_tree.specs.declared.expression.Core.{Core as TreeCore, fold-Core}
 use Rattle.c_tree.specs.declared.expression.Core.TheOpen as open_

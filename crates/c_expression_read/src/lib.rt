@@ -20,3 +20,6 @@ pub use read::{
 pub use word::{
     braced, broken, closed, colon, comma_at, deep, ended, ends_braces, last_comma, number,
 };
+
+#[cfg(test)]
+mod tests;

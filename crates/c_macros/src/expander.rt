@@ -5,7 +5,7 @@ ghost use Rattle.c_macros.specs.Expansion.{body_of};
 ghost use Rattle.c_macros.specs.Stack.{Steps, Expanded, texts};
 ghost use Rattle.c_macros.specs.declared.token.Token.{Token};
 
-use crate::table::{is_up, set};
+use crate::table::{is_up, set, shut};
 use crate::token::{Spanned, Token};
 use jf_base::Place;
 use std::alloc::{AllocError, Global};
@@ -59,7 +59,7 @@ fn step(
 {
     match macro_of(on, token) {
         Some(name) => {
-            set(on, name, false);
+            shut(on, name);
             stack.push(Frame { name, at: 0 })?;
             Ok(true)
         }

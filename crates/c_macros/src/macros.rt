@@ -153,8 +153,8 @@ impl MacroTable {
     }
 
     /// Puts out what a token expands to, or answers false where that is more than there is room for. Each token that is put out has the place that is
-    /// given. It takes as many steps as macros are replaced and tokens are put out, and a macro that was seen to expand to nothing is replaced no
-    /// second time until one that was seen so is defined or undefined.
+    /// given. It takes as many steps as the replacement lists that are gone through have tokens, and a macro that was seen to expand to nothing is
+    /// replaced no second time until one that was seen so is defined or undefined.
     pub fn expand(
         &mut self,
         alloc: Global,

@@ -7,7 +7,7 @@ ghost use Rattle.c_macros.specs.Remembering.{kind_at, Takes, wet, Remembers};
 ghost use Rattle.c_macros.specs.Keeping.{AreTracked};
 
 use crate::expander::token_at;
-use crate::table::{is_up, set};
+use crate::table::{is_up, set, shut};
 use crate::token::{Spanned, Token};
 use jf_base::Place;
 use std::alloc::{AllocError, Global};
@@ -101,7 +101,7 @@ fn take(
             Ok(true)
         }
         Kind::Open(name) => {
-            set(on, name, false);
+            shut(on, name);
             stack.push(Level {
                 name: level.name,
                 at: level.at + 1,
@@ -162,7 +162,7 @@ pub fn expand_quick(
             return Ok(false);
         }
         Kind::Open(name) => {
-            set(on, name, false);
+            shut(on, name);
             stack.push(Level {
                 name,
                 at: 0,

@@ -28,7 +28,7 @@ use Rattle.c_directives.specs.Directives.{define_at, undefine_at}
 use Rattle.c_directives.specs.Conditions.{Name, header_at, most_tokens}
 use Rattle.c_directives.specs.Reading.{State, Stand, Opens, Including, with_macros, act_at, line_at, lines_at, file_at, most_bytes, end_of, end_at, first_place, with_opens}
 use Rattle.c_directives.specs.Sorting.{state_of, work_of, Sorted}
-use Rattle.c_pre.specs.Files.{Answers, Gives, StopCounts, StopStrays, include_at, built_in, fault_of, FaultCounts, FaultStrays, Told, expanded_at, out_of, start, most_deep}
+use Rattle.c_pre.specs.Files.{Answers, Gives, StopCounts, StopStrays, include_at, built_in, fault_of, FaultCounts, FaultStrays, IsOfRule, Told, expanded_at, out_of, start, most_deep}
 
 pub gives_same : {A B : Type 0} (r : Result A Stop) (view : ℕ → B) (run other : ℕ → Read B) → ((k : ℕ) → run k ≡ other k) → Gives r view other → Gives r view run
 gives_same r view run other e (used, h) = (used, λ k. subst (λ x. Answers r k (λ _. view k) x) (sym (e (used + k))) (h k))
@@ -272,3 +272,8 @@ module _ (files : List (List ℕ × List ℕ)) (file before : ℕ) (bytes : List
   all_fails k j stop.Memory view a = tt
   all_fails k j (stop.Library name) view a = λ z. begins j ∙ ap out_of (a z)
   all_fails k j (stop.At f) view a = (f, begins j ∙ ap out_of a, refl, refl)
+
+pub told_rule : (x : Stop) → IsOfRule (Err (fault_of x))
+told_rule stop.Memory = tt
+told_rule (stop.Library name) = tt
+told_rule (stop.At f) = (f.rule, refl)

@@ -6,6 +6,7 @@ use Rattle.jf_base.specs.declared.place.Place.{Place}
 use Rattle.jf_outside.specs.Listing.{listed}
 use Rattle.jf_outside.specs.Count.{Rose}
 use Rattle.c_token.specs.declared.token.CSpanned.{CSpanned}
+use Rattle.c_lines.specs.declared.rule.Rule.{Rule}
 use Rattle.c_lines.specs.declared.rule.Rule.TheVariants as rule
 use Rattle.c_lines.specs.declared.header.Delimiter.TheVariants.{Angle, Quote}
 use Rattle.c_define.specs.Definitions.{no_macros}
@@ -126,3 +127,10 @@ FaultStrays (Ok tokens) files before now = now ≡ before
 FaultStrays (Err fault.Memory) files before now = Unit {0}
 FaultStrays (Err (fault.Library name)) files before now = IfSome (listed files name) (λ bytes. now ≡ before)
 FaultStrays (Err (fault.At place tag)) files before now = now ≡ before
+
+-- a broken rule is one of P01 to P10
+abbrev pub IsOfRule : Result (Vec CSpanned Global) PreFault → Type 0
+IsOfRule (Ok tokens) = Unit {0}
+IsOfRule (Err fault.Memory) = Unit {0}
+IsOfRule (Err (fault.Library name)) = Unit {0}
+IsOfRule (Err (fault.At place tag)) = (r : Rule) × (tag ≡ record { 0 = tag_number r })

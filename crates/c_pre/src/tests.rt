@@ -2,6 +2,7 @@ mod bytes;
 mod comments;
 mod expressions;
 mod literals;
+mod places;
 mod tokens;
 
 use crate::{PreFault, expand};

@@ -9,7 +9,7 @@ use Rattle.command.specs.Words.{Says, SaysNothing}
 use Rattle.fcc_core.specs.Outside.{SinkAt, Outside}
 use Rattle.fcc_core.specs.Lines.{memory_line}
 use Rattle.fcc_core.specs.Said.{Said}
-use Rattle.fcc_core.specs.Answer.{NoWords, NoRoom, OfRun, IsObeyed, HasStandardLimits, IsAnswered}
+use Rattle.fcc_core.specs.Answer.{NoWords, NoRoom, OfRun, IsObeyed, HasFewFiles, HasStandardLimits, IsAnswered}
 
 region : {a b : ℕ} → a ≡ b → IsRegionSize a → IsRegionSize b
 region e h = subst IsRegionSize e h
@@ -41,3 +41,8 @@ standard_limits (first ∷ words) (command.Run run) says =
       objects = s.objects;
       frames = s.frames;
     }
+
+-- the files of the words of a command
+pub few_files : (words : List (List ℕ)) (c : Command) → Says words c → HasFewFiles c
+few_files [] c says = absurd says
+few_files (first ∷ words) (command.Run run) says = says.1.files.most_files

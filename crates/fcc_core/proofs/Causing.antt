@@ -9,8 +9,9 @@ use Rattle.image_run.specs.declared.run.Ended.{Ended}
 use Rattle.image_run.proofs.Turns.{runs_to}
 use Rattle.command.specs.declared.words.RunWords.{RunWords}
 use Rattle.first_form.specs.declared.program.FirstProgram.{FirstProgram}
-use Rattle.first_code.specs.Compiled.{IsCompiled}
-use Rattle.fcc_core.specs.Outside.{SinkAt, Outside, IsUntroubled}
+use Rattle.first_image.specs.Compiled.{IsCompiled}
+use Rattle.source_tokens.specs.Outside.{IsUntroubled}
+use Rattle.fcc_core.specs.Outside.{SinkAt, Outside}
 use Rattle.fcc_core.specs.Sources.{IsProgram}
 use Rattle.fcc_core.specs.Front.{IsFronted}
 use Rattle.fcc_core.specs.Fault.{fault_status, fault_line, SaidUnlessMemory}
@@ -33,7 +34,7 @@ module _ (run : RunWords) (before after : Outside) (kept : Option Image) (result
   by_fault f unrun fronted (inr said) = by_memory unrun said
   by_fault fault.Memory unrun fronted (inl said) = by_memory unrun said
   by_fault (fault.Library name) unrun fronted (inl said) = caused _ _ (NotGiven name fronted unrun) said
-  by_fault (fault.Source place tag) unrun fronted (inl said) = caused _ _ (NotAccepted place.file place.line tag.0 fronted unrun) said
+  by_fault (fault.Source place tag) unrun fronted (inl said) = caused _ _ (NotAccepted place tag fronted unrun) said
 
   pub by_fault_of : (names names' : List (List ℕ)) (f : FrontFault) → names ≡ run.files → names' ≡ run.files → IsUnrun before after kept → IsFronted names (Err f) before.library after.library → SaidUnlessMemory (fault_status f) (fault_line names' f) result err err' → IsCaused run before after kept result err err'
   by_fault_of names names' f same same' unrun fronted said =

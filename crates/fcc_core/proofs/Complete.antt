@@ -23,9 +23,15 @@ use Rattle.first_form.specs.declared.pair.Reading.TheVariants as reading
 use Rattle.first_form.specs.Forms.{IsFortranText, IsCText}
 use Rattle.first_form.specs.Readings.{AreTexts}
 use Rattle.first_form.proofs.OneReading.{one_reading, one_fortran}
-use Rattle.first_code.specs.Compiled.{IsCompiled, AreStandard, pace}
+use Rattle.first_image.specs.Compiled.{IsCompiled, AreStandard, pace}
 use Rattle.first_meaning.specs.Joint.{joint}
+use Rattle.jf_base.specs.declared.place.Place.{Place}
+use Rattle.jf_base.specs.declared.tag.Tag.{Tag}
+use Rattle.source_tokens.specs.declared.source.SourceFile.{SourceFile}
+use Rattle.source_tokens.specs.Sources.{Files, AreSources, IsBroken, Reaches}
+use Rattle.source_tokens.proofs.OneList.{one_list, none_broken}
 use Rattle.fcc_core.specs.Outside.{SinkAt, Outside}
+use Rattle.fcc_core.specs.Front.{IsUnbuilt}
 use Rattle.fcc_core.specs.Sources.{IsProgram, IsNotBuilt, Misplaced, InFortran, InC}
 use Rattle.fcc_core.specs.Lines.{ended_status}
 use Rattle.fcc_core.specs.Said.{Said}
@@ -58,33 +64,41 @@ ended_by r m steps ending is p q le =
     ap (λ x. ended_status (ended_of x.state.mode)) same ∙ w.2 ∙ ap ending_status is
 
 -- two programs of the same files are the same
-one_program : (files : List (List ℕ × List ℕ)) (names : List (List ℕ)) (one other : FirstProgram) → IsProgram files names one → IsProgram files names other → one ≡ other
-one_program files names one other p q =
-    let same : Some (p.fortran ∷ p.c ∷ []) ≡ Some (q.fortran ∷ q.c ∷ []) = sym p.texts ∙ q.texts in
-    let f : p.fortran ≡ q.fortran = cc in
-    let c : p.c ≡ q.c = cc in
-    let P : List ℕ → Type 0 = λ x. AreTexts x p.c one in
-    let Q : List ℕ → Type 0 = λ x. AreTexts q.fortran x one in
-    let read : reading.Program one ≡ reading.Program other = one_reading q.fortran q.c (reading.Program one) (reading.Program other) (subst Q c (subst P f p.are_texts)) q.are_texts in
-    cc
+module _ (files : Files) (names : List (List ℕ)) where
+  same_files : (f c f' c' : SourceFile) → AreSources files 0 0 names (f ∷ c ∷ []) → AreSources files 0 0 names (f' ∷ c' ∷ []) → (f.text ≡ f'.text) × (c.text ≡ c'.text)
+  same_files f c f' c' p q =
+      let same : f ∷ c ∷ [] ≡ f' ∷ c' ∷ [] = one_list files 0 0 names (f ∷ c ∷ []) (f' ∷ c' ∷ []) p q in
+      let one : f ≡ f' = cc in
+      let other : c ≡ c' = cc in
+      (ap (λ s. s.text) one, ap (λ s. s.text) other)
 
--- files that make a program are built
-built : (files : List (List ℕ × List ℕ)) (names : List (List ℕ)) (program : FirstProgram) (k : ℕ) → IsProgram files names program → IsNotBuilt files names k → ⊥
-built files names program k p (Misplaced k' at there) = let e : None ≡ Some k' = sym p.placed ∙ at in cc
-built files names program k p (InFortran fortran c placed texts none) =
-    let same : Some (p.fortran ∷ p.c ∷ []) ≡ Some (fortran ∷ c ∷ []) = sym p.texts ∙ texts in
-    let f : p.fortran ≡ fortran = cc in
-    let P : List ℕ → Type 0 = λ x. IsFortranText x program.label program.calls in
-    none program.label program.calls (subst P f p.are_texts.fortran_text)
-built files names program k p (InC fortran c placed texts fault) =
-    let same : Some (p.fortran ∷ p.c ∷ []) ≡ Some (fortran ∷ c ∷ []) = sym p.texts ∙ texts in
-    let f : p.fortran ≡ fortran = cc in
-    let g : p.c ≡ c = cc in
-    let P : List ℕ → Type 0 = λ x. IsFortranText x program.label program.calls in
-    let Q : List ℕ → Type 0 = λ x. IsCText x program.label program.puts in
-    let R : List ℕ → Type 0 = λ x. IsCText c x program.puts in
-    let label : program.label ≡ fault.label = (one_fortran fortran program.label program.calls fault.label fault.calls (subst P f p.are_texts.fortran_text) fault.fortran_text).0 in
-    fault.no_c_text program.puts (subst R label (subst Q g p.are_texts.c_text))
+  one_program : (one other : FirstProgram) → IsProgram files names one → IsProgram files names other → one ≡ other
+  one_program one other p q =
+      let same = same_files p.fortran p.c q.fortran q.c p.sources q.sources in
+      let P : List ℕ → Type 0 = λ x. AreTexts x p.c.text one in
+      let Q : List ℕ → Type 0 = λ x. AreTexts q.fortran.text x one in
+      let read : reading.Program one ≡ reading.Program other = one_reading q.fortran.text q.c.text (reading.Program one) (reading.Program other) (subst Q same.1 (subst P same.0 p.are_texts)) q.are_texts in
+      cc
+
+  -- files that make a program are built
+  built : (program : FirstProgram) (k : ℕ) → IsProgram files names program → IsNotBuilt files names k → ⊥
+  built program k p (Misplaced k' sources at there) = let e : None ≡ Some k' = sym p.placed ∙ at in cc
+  built program k p (InFortran fortran c placed sources none) =
+      let same = same_files p.fortran p.c fortran c p.sources sources in
+      let P : List ℕ → Type 0 = λ x. IsFortranText x program.label program.calls in
+      none program.label program.calls (subst P same.0 p.are_texts.fortran_text)
+  built program k p (InC fortran c placed sources fault) =
+      let same = same_files p.fortran p.c fortran c p.sources sources in
+      let P : List ℕ → Type 0 = λ x. IsFortranText x program.label program.calls in
+      let Q : List ℕ → Type 0 = λ x. IsCText x program.label program.puts in
+      let R : List ℕ → Type 0 = λ x. IsCText c.text x program.puts in
+      let label : program.label ≡ fault.label = (one_fortran fortran.text program.label program.calls fault.label fault.calls (subst P same.0 p.are_texts.fortran_text) fault.fortran_text).0 in
+      fault.no_c_text program.puts (subst R label (subst Q same.1 p.are_texts.c_text))
+
+  -- and not refused
+  not_refused : (program : FirstProgram) (place : Place) (tag : Tag) → IsProgram files names program → Reaches files (IsBroken files place tag) 0 0 names ⊎ IsUnbuilt files names place tag → ⊥
+  not_refused program place tag p (inl broken) = none_broken files place tag 0 0 names (p.fortran ∷ p.c ∷ []) p.sources broken
+  not_refused program place tag p (inr unbuilt) = built program place.file p unbuilt.not_built
 
 -- where the stream didn't fail, the answer is the status
 said_status : (status : ℕ) (line : List ℕ) (result : ℕ) (err err' : SinkAt) → ¬ (Rose err.faults err'.faults) → Said status line result err.faults err'.faults err.contents err'.contents → result ≡ status
@@ -119,8 +133,8 @@ module _ (run : RunWords) (before after : Outside) (kept : Option Image) (files 
 
     pub caused : (status : ℕ) (line : List ℕ) → Cause run before after kept status line → ¬ (Rose before.library.faults after.library.faults) → ¬ (Rose before.input.faults after.input.faults) → ¬ (Rose before.out.faults after.out.faults) → (status ≡ ending_status end) ⊎ (status ≡ 209)
     caused status line (NoMemory unrun) ql qi qo = inr refl
-    caused status line (NotGiven name given unrun) ql qi qo = absurd (ql given.rose)
-    caused status line (NotAccepted file line' tag refused unrun) ql qi qo = absurd (built files run.files program file accepted (refused.not_built files told))
+    caused status line (NotGiven name given unrun) ql qi qo = absurd (ql given.failed.rose)
+    caused status line (NotAccepted place tag refused unrun) ql qi qo = absurd (not_refused files run.files program place tag accepted (refused.why files told))
     caused status line (Ran e r) ql qi qo = inl (ran e r qi qo)
 
 -- the status of an answer

@@ -1,4 +1,3 @@
-pub mod ReadFiles
 pub mod Fronting
 pub mod Causing
 pub mod Answering

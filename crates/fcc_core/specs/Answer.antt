@@ -1,5 +1,5 @@
 -- What the top call answers, and why.
-use Rattle.std.specs.Prelude.{◌≡◌, ◌≢◌, ◌⊎◌, ◌≤◌, ◌+◌, ◌*◌, ℕ, List, [], codes, get_or, Option, Some, None}
+use Rattle.std.specs.Prelude.{◌≡◌, ◌≢◌, ◌⊎◌, ◌≤◌, ◌+◌, ◌*◌, ℕ, List, [], codes, get_or, length, Option, Some, None}
 use Rattle.behaviour.specs.Behaviour.{Ending, Running, Stopped, Limited, Frames, Objects, Wrong}
 use Rattle.jf_outside.specs.Count.{Rose}
 use Rattle.program_image.specs.declared.Image.{Image}
@@ -12,9 +12,12 @@ use Rattle.command.specs.declared.words.Command.TheVariants as command
 use Rattle.command.specs.declared.words.RunWords.{RunWords}
 use Rattle.command.specs.Words.{Says, SaysNothing}
 use Rattle.first_form.specs.declared.program.FirstProgram.{FirstProgram}
-use Rattle.first_code.specs.Compiled.{IsCompiled, AreStandard, pace}
+use Rattle.first_image.specs.Compiled.{IsCompiled, AreStandard, pace}
 use Rattle.first_meaning.specs.Joint.{joint}
-use Rattle.fcc_core.specs.Outside.{SinkAt, Outside, IsUntroubled, IsIdle}
+use Rattle.jf_base.specs.declared.place.Place.{Place}
+use Rattle.jf_base.specs.declared.tag.Tag.{Tag}
+use Rattle.source_tokens.specs.Outside.{IsUntroubled}
+use Rattle.fcc_core.specs.Outside.{SinkAt, Outside, IsIdle}
 use Rattle.fcc_core.specs.Sources.{IsProgram, IsNotGiven}
 use Rattle.fcc_core.specs.Front.{IsRefused}
 use Rattle.fcc_core.specs.Lines.{stop_status, limit_status, ended_status, ended_line, no_file_line, refusal_line, memory_line}
@@ -47,7 +50,7 @@ pub record IsUnrun (before after : Outside) (kept : Option Image) : Type 0 where
 pub data Cause (run : RunWords) (before after : Outside) (kept : Option Image) : (status : ℕ) → (line : List ℕ) → Type 0 where
   NoMemory : IsUnrun before after kept → Cause run before after kept 209 memory_line
   NotGiven : (name : List ℕ) → IsNotGiven run.files name before.library after.library → IsUnrun before after kept → Cause run before after kept 201 (no_file_line name)
-  NotAccepted : (file line tag : ℕ) → IsRefused run.files file line tag before.library after.library → IsUnrun before after kept → Cause run before after kept 202 (refusal_line (name_at run.files file) line tag)
+  NotAccepted : (place : Place) (tag : Tag) → IsRefused run.files place tag before.library after.library → IsUnrun before after kept → Cause run before after kept 202 (refusal_line (name_at run.files place.file) place.line tag.0)
   Ran : (ended : Ended) → IsRun run before after kept ended → Cause run before after kept (ended_status ended) (ended_line ended)
 
 -- the same from the words on
@@ -66,6 +69,10 @@ pub record IsCaused (run : RunWords) (before after : Outside) (kept : Option Ima
 -- the command was done
 abbrev pub IsObeyed : Command → Outside → Outside → Option Image → ℕ → SinkAt → SinkAt → Type 0
 IsObeyed (command.Run run) before after kept result err err' = IsCaused run before after kept result err err'
+
+-- it names files as the command line may
+abbrev pub HasFewFiles : Command → Type 0
+HasFewFiles (command.Run run) = length run.files ≤ 64
 
 abbrev pub HasStandardLimits : Command → Type 0
 HasStandardLimits (command.Run run) = AreStandard run.limits

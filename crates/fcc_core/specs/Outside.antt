@@ -1,11 +1,6 @@
 -- What can be told of the outside at one moment.
-use Rattle.std.specs.Prelude.{◌≡◌, ℕ, List, Option, Some}
-
--- a library: its names with their bytes, where it tells them, and how often it has failed and was asked for a name that isn't listed
-pub record LibraryAt : Type 0 where
-  pub listing : Option (List (List ℕ × List ℕ))
-  pub faults : ℕ
-  pub strays : ℕ
+use Rattle.std.specs.Prelude.{◌≡◌, ℕ, List, Option}
+use Rattle.source_tokens.specs.Outside.{LibraryAt}
 
 -- a source: the bytes left, where it tells them, and how often it has failed
 pub record SourceAt : Type 0 where
@@ -22,11 +17,6 @@ pub record Outside : Type 0 where
   pub library : LibraryAt
   pub input : SourceAt
   pub out : SinkAt
-
--- the library didn't fail, and where it tells its list it wasn't asked for another name
-pub record IsUntroubled (before after : LibraryAt) : Type 0 where
-  pub faults : after.faults ≡ before.faults
-  pub strays : (files : List (List ℕ × List ℕ)) → before.listing ≡ Some files → after.strays ≡ before.strays
 
 -- nothing was taken from the input or written to the output
 pub record IsIdle (before after : Outside) : Type 0 where

@@ -1,11 +1,13 @@
 //! The front half: from the names of files to a program.
-ghost use Rattle.std.specs.Prelude.{◌≡◌, ℕ, ◌≤◌, List, Option, Some, length};
-ghost use Rattle.fcc_core.specs.Front.{IsNamed, IsRead, AreRead, IsReadAs, IsFronted};
-ghost use Rattle.fcc_core.specs.Sources.{is_fortran_name, is_c_name, misplaced};
+ghost use Rattle.std.specs.Prelude.{◌≡◌, ◌≤◌, length};
+ghost use Rattle.fcc_core.specs.Front.{IsReadAs, IsFronted, front_fault};
+ghost use Rattle.source_tokens.specs.Sources.{is_fortran_name};
+ghost use Rattle.fcc_core.specs.Sources.{is_c_name, misplaced};
 
 use first_form::{FirstProgram, Reading, read_pair};
-use jf_base::{List as Bytes, Place, Tag, Text};
-use jf_outside::{Library, LibraryFault};
+use jf_base::{Place, Tag, Text};
+use jf_outside::Library;
+use source_tokens::{SourceFault, read_sources};
 use std::alloc::Global;
 
 /// The rule that a source is in the form that is built so far.
@@ -19,55 +21,14 @@ pub enum FrontFault {
     Source { place: Place, tag: Tag },
 }
 
-// A copy of the name, to tell it.
-fn not_given(name: &Text) -> FrontFault
-    ensures { IsNamed name.now result }
+fn front_fault(fault: SourceFault) -> FrontFault
+    ensures { result ≡ front_fault fault }
 {
-    match name.clone() {
-        Ok(name) => FrontFault::Library(name),
-        Err(_) => FrontFault::Memory,
+    match fault {
+        SourceFault::Memory => FrontFault::Memory,
+        SourceFault::Library(name) => FrontFault::Library(name),
+        SourceFault::Source { place, tag } => FrontFault::Source { place, tag },
     }
-}
-
-fn read_file<L: Library>(
-    alloc: Global,
-    name: &Text,
-    library: &mut L,
-) -> Result<Bytes<u8>, FrontFault>
-    ensures listing { L.files library.new ≡ L.files library.old }
-    ensures read { IsRead name.now result
-        (record { listing = L.files library.old; faults = L.faults library.old; strays = L.strays library.old })
-        (record { listing = L.files library.new; faults = L.faults library.new; strays = L.strays library.new }) }
-{
-    match library.read(alloc, name.as_str()) {
-        Ok(bytes) => Ok(Bytes(bytes)),
-        Err(LibraryFault::Memory) => Err(FrontFault::Memory),
-        Err(LibraryFault::Failed) => Err(not_given(name)),
-    }
-}
-
-fn read_files<L: Library>(
-    alloc: Global,
-    names: &[Text],
-    library: &mut L,
-) -> Result<Vec<Bytes<u8>>, FrontFault>
-    ensures listing { L.files library.new ≡ L.files library.old }
-    ensures read { AreRead names.now result
-        (record { listing = L.files library.old; faults = L.faults library.old; strays = L.strays library.old })
-        (record { listing = L.files library.new; faults = L.faults library.new; strays = L.strays library.new }) }
-{
-    let mut texts = Vec::new(alloc);
-    for name in names {
-        match read_file(alloc, name, library) {
-            Ok(text) => {
-                if texts.push(text).is_err() {
-                    return Err(FrontFault::Memory);
-                }
-            }
-            Err(fault) => return Err(fault),
-        }
-    }
-    Ok(texts)
 }
 
 // Whether the name is that of a Fortran file.
@@ -129,27 +90,29 @@ fn read_program(alloc: Global, fortran: &[u8], c: &[u8]) -> Result<FirstProgram,
     }
 }
 
-/// Reads the files of these names, in order, and the program that they make. The answer is the program, or the first fault:
-/// a file that the library doesn't give, and else the first file that isn't in the form that is built so far.
+/// Reads the files of these names, in order, and the program that they make. The answer is the program, or the first fault: a file that the library
+/// doesn't give, the first broken rule of Fortran's source form (`L01` to `L08`) or of C's preprocessor (`P01` to `P10`), and else `X01` at the first
+/// file that isn't in the form that is built so far.
 pub fn front<L: Library>(
     alloc: Global,
     names: &[Text],
     library: &mut L,
 ) -> Result<FirstProgram, FrontFault>
+    requires { length names.now ≤ 64 }
     ensures listing { L.files library.new ≡ L.files library.old }
     ensures fronted { IsFronted names.now result
         (record { listing = L.files library.old; faults = L.faults library.old; strays = L.strays library.old })
         (record { listing = L.files library.new; faults = L.faults library.new; strays = L.strays library.new }) }
 {
-    let texts = match read_files(alloc, names, library) {
-        Ok(texts) => texts,
-        Err(fault) => return Err(fault),
+    let sources = match read_sources(alloc, names, library) {
+        Ok(sources) => sources,
+        Err(fault) => return Err(front_fault(fault)),
     };
     if let Some(file) = misplaced(names) {
         return Err(not_built(file));
     }
-    match texts.as_slice() {
-        [fortran, c] => read_program(alloc, fortran.as_slice(), c.as_slice()),
+    match sources.as_slice() {
+        [fortran, c] => read_program(alloc, fortran.text.as_slice(), c.text.as_slice()),
         _ => unreachable!(),
     }
 }

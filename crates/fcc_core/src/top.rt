@@ -1,18 +1,18 @@
 //! The top call.
-ghost use Rattle.std.specs.Prelude.{◌≡◌, None, IfOk};
+ghost use Rattle.std.specs.Prelude.{◌≡◌, ◌≤◌, None, IfOk, length};
 ghost use Rattle.rv_machine.specs.declared.event.Mode.TheVariants.{Ready};
 ghost use Rattle.rv_machine.specs.Loaded.{loaded};
 ghost use Rattle.command.specs.Words.{texts};
 ghost use Rattle.first_form.specs.Readings.{IsFirstProgram};
-ghost use Rattle.first_code.specs.Compiled.{IsCompiled, AreStandard};
-ghost use Rattle.fcc_core.specs.Answer.{IsCaused, IsObeyed, HasStandardLimits, IsAnswered, IsComplete};
+ghost use Rattle.first_image.specs.Compiled.{IsCompiled, AreStandard};
+ghost use Rattle.fcc_core.specs.Answer.{IsCaused, IsObeyed, HasFewFiles, HasStandardLimits, IsAnswered, IsComplete};
 
 use crate::front::front;
 use crate::say::{say, say_ended};
 use crate::tell::{say_fault, say_memory};
 use command::{Command, RunWords, read_words};
-use first_code::compile;
 use first_form::FirstProgram;
+use first_image::compile;
 use image_run::run_image;
 use jf_base::{Limits, Memory};
 use jf_outside::{Library, Sink, Source};
@@ -50,6 +50,7 @@ fn run_files<L: Library, I: Source, O: Sink, E: Sink>(
     kept: &mut Option<Image>,
 ) -> u8
     requires limits { AreStandard run.now.limits }
+    requires files { length run.now.files ≤ 64 }
     requires none_kept { kept.old ≡ None }
     ensures listing { L.files library.new ≡ L.files library.old }
     ensures caused { IsCaused run.now
@@ -88,6 +89,7 @@ fn obey<L: Library, I: Source, O: Sink, E: Sink>(
     kept: &mut Option<Image>,
 ) -> u8
     requires limits { HasStandardLimits command.now }
+    requires files { HasFewFiles command.now }
     requires none_kept { kept.old ≡ None }
     ensures listing { L.files library.new ≡ L.files library.old }
     ensures obeyed { IsObeyed command.now

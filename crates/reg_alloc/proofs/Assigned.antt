@@ -8,7 +8,7 @@ use Rattle.block_homes.specs.declared.homes.Assignment.{Assignment}
 use Rattle.block_homes.specs.Held.{places_of, homes_in}
 use Rattle.block_homes.specs.Valid.{IsNamed, Kept, AllValid}
 use Rattle.reg_alloc.specs.All.{IsAssigned, AreAssigned}
-use Rattle.reg_alloc.proofs.Analysis.{same_or}
+use Rattle.reg_alloc.proofs.Lists.{same_or}
 
 abbrev pub So_far : List BlockProc → List Assignment → ℕ → Type 0
 So_far procs assignments n = (f : ℕ) (q : BlockProc) (a : Assignment) → f < n → IsAssigned (get_or procs f q) (get_or assignments f a)

@@ -21,7 +21,7 @@ use Rattle.reg_alloc.specs.Live.LiveAt.{Passed}
 use Rattle.reg_alloc.proofs.Clash.{Apart, apart_kept}
 use Rattle.reg_alloc.specs.declared.ranges.Range.{Range}
 use Rattle.reg_alloc.specs.Scan.{first_of, Ranges, Scan, IsChoice, Chosen}
-use Rattle.reg_alloc.proofs.Analysis.{same_or}
+use Rattle.reg_alloc.proofs.Lists.{same_or}
 use Rattle.reg_alloc.proofs.Exact.{total_under}
 
 place_at : (homes : List Home) (v : ℕ) (d : Home) → v < length homes → slice_index (map place homes) v ≡ place (get_or homes v d)

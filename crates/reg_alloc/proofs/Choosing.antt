@@ -7,7 +7,7 @@ use Rattle.reg_alloc.specs.declared.ranges.Range.{Range}
 use Rattle.reg_alloc.specs.declared.scan.Choice.{Choice}
 use Rattle.reg_alloc.specs.declared.scan.Choice.TheVariants as C
 use Rattle.reg_alloc.specs.Scan.{Scan, code, codes, IsProper, AllProper}
-use Rattle.reg_alloc.proofs.Analysis.{same_or}
+use Rattle.reg_alloc.proofs.Lists.{same_or}
 use Rattle.reg_alloc.proofs.Scanning.{set_more}
 
 pub code_at : (cs : List Choice) (v : ℕ) (c : Choice) → v < length cs → c ≡ get_or cs v c → slice_index (codes cs) v ≡ code c

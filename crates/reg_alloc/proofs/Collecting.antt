@@ -10,49 +10,50 @@ use Rattle.flatten.specs.Paths.{uses_of, end_uses, sets, goes_to}
 use Rattle.block_homes.specs.Held.{total}
 use Rattle.block_homes.specs.Valid.{InsnBelow}
 use Rattle.reg_alloc.specs.declared.occurrences.Occurrence.{Occurrence}
-use Rattle.reg_alloc.specs.Occurs.{occurrence, row, add_all, add_insn, add_insns, named, in_insns, in_blocks, ends_to}
+use Rattle.reg_alloc.specs.Occurs.{occurrence, row, all_by, insn_by, insns_by, named_by, in_insns_by, in_blocks_by, named, ends_to}
+use Rattle.reg_alloc.specs.Rows.{Places}
 use Rattle.reg_alloc.proofs.Exact.{total_under, total_more}
-use Rattle.reg_alloc.proofs.Occurring.{add_length, row_add_all}
+use Rattle.reg_alloc.proofs.Occurring.{all_length, row_all_by}
 
-insn_length : (b k : ℕ) (x : BlockInsn) (rows : List (List Occurrence)) → length (add_insn b k x rows) ≡ length rows
-insn_length b k x rows = add_length (occurrence b k true) (sets x) (add_all (occurrence b k false) (uses_of x) rows) ∙ add_length (occurrence b k false) (uses_of x) rows
+insn_length : (keys : List ℕ) (b k : ℕ) (x : BlockInsn) (rows : List (List Occurrence)) → length (insn_by keys b k x rows) ≡ length rows
+insn_length keys b k x rows = all_length keys b k true (sets x) (all_by keys b k false (uses_of x) rows) ∙ all_length keys b k false (uses_of x) rows
 
-row_insn : (b k v : ℕ) (x : BlockInsn) (rows : List (List Occurrence)) → InsnBelow (length rows) x → row (add_insn b k x rows) v ≡ row rows v ++ named (occurrence b k false) v (uses_of x) ++ named (occurrence b k true) v (sets x)
-row_insn b k v x rows w =
-    let used = add_all (occurrence b k false) (uses_of x) rows in
-    row_add_all (occurrence b k true) (sets x) v used (subst (λ n. AllBelow n (sets x)) (sym (add_length (occurrence b k false) (uses_of x) rows)) w.1)
-    ∙ ap (λ l. l ++ named (occurrence b k true) v (sets x)) (row_add_all (occurrence b k false) (uses_of x) v rows w.0)
+module _ (keys : List ℕ) (b h : ℕ) where
+  row_insn : (k : ℕ) (x : BlockInsn) (rows : List (List Occurrence)) → InsnBelow (length keys) x → Places (length keys) (length rows) keys → row (insn_by keys b k x rows) h ≡ row rows h ++ named_by keys b k false h (uses_of x) ++ named_by keys b k true h (sets x)
+  row_insn k x rows w pl =
+      let used = all_by keys b k false (uses_of x) rows in
+      row_all_by keys b k true (sets x) h used w.1 (subst (λ n. Places (length keys) n keys) (sym (all_length keys b k false (uses_of x) rows)) pl)
+      ∙ ap (λ l. l ++ named_by keys b k true h (sets x)) (row_all_by keys b k false (uses_of x) h rows w.0 pl)
 
-pub row_insns : (b k v : ℕ) (xs : List BlockInsn) (e : BlockEnd) (rows : List (List Occurrence)) → All (InsnBelow (length rows)) xs → AllBelow (length rows) (end_uses e) → row (add_insns b k xs e rows) v ≡ row rows v ++ in_insns v b k xs e
-row_insns b k v [] e rows w l = row_add_all (occurrence b k false) (end_uses e) v rows l
-row_insns b k v (x ∷ xs) e rows w l =
-    let n = sym (insn_length b k x rows) in
-    let n1 = named (occurrence b k false) v (uses_of x) in
-    let n2 = named (occurrence b k true) v (sets x) in
-    let rest = in_insns v b (k + 1) xs e in
-    row_insns b (k + 1) v xs e (add_insn b k x rows) (λ i d lt. subst (λ m. InsnBelow m (get_or xs i d)) n (w (suc i) d (omega (arith, lt)))) (subst (λ m. AllBelow m (end_uses e)) n l)
-    ∙ ap (λ r. r ++ rest) (row_insn b k v x rows (w 0 x (omega arith)))
-    ∙ append_assoc (row rows v ++ n1) n2 rest
-    ∙ append_assoc (row rows v) n1 (n2 ++ rest)
+  pub row_insns : (k : ℕ) (xs : List BlockInsn) (e : BlockEnd) (rows : List (List Occurrence)) → All (InsnBelow (length keys)) xs → AllBelow (length keys) (end_uses e) → Places (length keys) (length rows) keys → row (insns_by keys b k xs e rows) h ≡ row rows h ++ in_insns_by keys h b k xs e
+  row_insns k [] e rows w l pl = row_all_by keys b k false (end_uses e) h rows l pl
+  row_insns k (x ∷ xs) e rows w l pl =
+      let n1 = named_by keys b k false h (uses_of x) in
+      let n2 = named_by keys b k true h (sets x) in
+      let rest = in_insns_by keys h b (k + 1) xs e in
+      row_insns (k + 1) xs e (insn_by keys b k x rows) (λ i d lt. w (suc i) d (omega (arith, lt))) l (subst (λ n. Places (length keys) n keys) (sym (insn_length keys b k x rows)) pl)
+      ∙ ap (λ r. r ++ rest) (row_insn k x rows (w 0 x (omega arith)) pl)
+      ∙ append_assoc (row rows h ++ n1) n2 rest
+      ∙ append_assoc (row rows h) n1 (n2 ++ rest)
 
 -- one more block
 block_first : (bs : List Block) (b : ℕ) (block : Block) → block ≡ get_or bs b block → b < length bs → drop b bs ≡ block ∷ drop (b + 1) bs
 block_first bs b block is lt = drop_more bs b block lt ∙ ap (λ x. x ∷ drop (b + 1) bs) (sym is)
 
-pub collected_more : (v b k : ℕ) (bs : List Block) (block : Block) (old new all : List Occurrence) → block ≡ get_or bs b block → b < length bs → new ≡ old ++ in_insns v b k block.insns block.end → old ++ in_blocks v b k (drop b bs) ≡ all → new ++ in_blocks v (b + 1) (k + (length block.insns + 1)) (drop (b + 1) bs) ≡ all
-collected_more v b k bs block old new all is lt e h =
-    let one = in_insns v b k block.insns block.end in
-    let rest = in_blocks v (b + 1) (k + (length block.insns + 1)) (drop (b + 1) bs) in
-    ap (λ l. l ++ rest) e ∙ append_assoc old one rest ∙ ap (λ l. old ++ in_blocks v b k l) (sym (block_first bs b block is lt)) ∙ h
+pub collected_more : (keys : List ℕ) (v b k : ℕ) (bs : List Block) (block : Block) (old new all : List Occurrence) → block ≡ get_or bs b block → b < length bs → new ≡ old ++ in_insns_by keys v b k block.insns block.end → old ++ in_blocks_by keys v b k (drop b bs) ≡ all → new ++ in_blocks_by keys v (b + 1) (k + (length block.insns + 1)) (drop (b + 1) bs) ≡ all
+collected_more keys v b k bs block old new all is lt e h =
+    let one = in_insns_by keys v b k block.insns block.end in
+    let rest = in_blocks_by keys v (b + 1) (k + (length block.insns + 1)) (drop (b + 1) bs) in
+    ap (λ l. l ++ rest) e ∙ append_assoc old one rest ∙ ap (λ l. old ++ in_blocks_by keys v b k l) (sym (block_first bs b block is lt)) ∙ h
 
-pub ends_more : (t b k : ℕ) (bs : List Block) (block : Block) (old new all : List Occurrence) → block ≡ get_or bs b block → b < length bs → new ≡ old ++ named (occurrence b (k + length block.insns) false) t (goes_to block.end) → old ++ ends_to t b k (drop b bs) ≡ all → new ++ ends_to t (b + 1) (k + (length block.insns + 1)) (drop (b + 1) bs) ≡ all
+pub ends_more : (t b k : ℕ) (bs : List Block) (block : Block) (old new all : List Occurrence) → block ≡ get_or bs b block → b < length bs → new ≡ old ++ named (occurrence b (k + length block.insns) false t) t (goes_to block.end) → old ++ ends_to t b k (drop b bs) ≡ all → new ++ ends_to t (b + 1) (k + (length block.insns + 1)) (drop (b + 1) bs) ≡ all
 ends_more t b k bs block old new all is lt e h =
-    let one = named (occurrence b (k + length block.insns) false) t (goes_to block.end) in
+    let one = named (occurrence b (k + length block.insns) false t) t (goes_to block.end) in
     let rest = ends_to t (b + 1) (k + (length block.insns + 1)) (drop (b + 1) bs) in
     ap (λ l. l ++ rest) e ∙ append_assoc old one rest ∙ ap (λ l. old ++ ends_to t b k l) (sym (block_first bs b block is lt)) ∙ h
 
-pub collected_all : (v b k : ℕ) (bs : List Block) (old all : List Occurrence) → length bs ≤ b → old ++ in_blocks v b k (drop b bs) ≡ all → old ≡ all
-collected_all v b k bs old all le h = sym (append-nil old) ∙ ap (λ l. old ++ in_blocks v b k l) (sym (drop_all b bs le)) ∙ h
+pub collected_all : (keys : List ℕ) (v b k : ℕ) (bs : List Block) (old all : List Occurrence) → length bs ≤ b → old ++ in_blocks_by keys v b k (drop b bs) ≡ all → old ≡ all
+collected_all keys v b k bs old all le h = sym (append-nil old) ∙ ap (λ l. old ++ in_blocks_by keys v b k l) (sym (drop_all b bs le)) ∙ h
 
 pub ends_all : (t b k : ℕ) (bs : List Block) (old all : List Occurrence) → length bs ≤ b → old ++ ends_to t b k (drop b bs) ≡ all → old ≡ all
 ends_all t b k bs old all le h = sym (append-nil old) ∙ ap (λ l. old ++ ends_to t b k l) (sym (drop_all b bs le)) ∙ h

@@ -1,9 +1,4 @@
-pub mod Analysis
-pub mod Measure
-pub mod Running
-pub mod Flowing
-pub mod Visiting
-pub mod Checking
+pub mod Lists
 pub mod Exact
 pub mod Paths
 pub mod Clash
@@ -18,3 +13,8 @@ pub mod Choosing
 pub mod Assigning
 pub mod Assigned
 pub mod Below
+pub mod Leaving
+pub mod Tracing
+pub mod Looking
+pub mod Judging
+pub mod Reached

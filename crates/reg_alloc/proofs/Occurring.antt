@@ -1,6 +1,6 @@
 -- What the occurrences of a value say of it.
 use Rattle.std.proofs.Common.{◌≡◌, ◌≢◌, ℕ, zero, suc, ◌+◌, ◌<◌, ◌≤◌, Bool, true, false, cond, ◌&&◌, ◌||◌, not, ◌⊎◌, inl, inr, List, [], ◌∷◌, ◌++◌, length, take, drop, refl, sym, ap, ◌∙◌, subst, arith, Option, Some, None, append_assoc, append-nil, length-append, get_or-set_same, get_or-set_other}
-use Rattle.std.specs.Prelude.{◌==◌, slice_get, slice_index, slice_set}
+use Rattle.std.specs.Prelude.{◌==◌, slice_get, slice_index, slice_set, All}
 use Rattle.std.proofs.lemmas.Bool.{eq-eqb, ne_eqb}
 use Rattle.std.proofs.lemmas.Bool.Decides.{eqb_tells}
 use Rattle.std.proofs.lemmas.List.{length-set}
@@ -16,7 +16,9 @@ use Rattle.reg_alloc.specs.declared.ranges.Range.{Range}
 use Rattle.reg_alloc.specs.declared.occurrences.Occurrence.{Occurrence}
 use Rattle.reg_alloc.specs.Live.{Present}
 use Rattle.reg_alloc.specs.Live.LiveAt.{Used, UsedLast}
-use Rattle.reg_alloc.specs.Occurs.{occurrence, row, add, add_all, named, in_insns, in_blocks, Each, first_in}
+use Rattle.reg_alloc.specs.Occurs.{occurrence, row, add, all_by, add_all, named_by, in_insns_by, in_blocks_by, named, in_insns, in_blocks, Each, first_in}
+use Rattle.reg_alloc.specs.Rows.{Places}
+use Rattle.block_homes.specs.Valid.{InsnBelow, BlockBelow}
 use Rattle.reg_alloc.specs.Ranges.{among, any_live, lives, here, sets_first, Covers}
 use Rattle.reg_alloc.proofs.Exact.{total_under}
 use Rattle.reg_alloc.proofs.Ranging.{true_or, or_left, or_right, two_true, not_true, and_true, among_is}
@@ -31,17 +33,69 @@ row_add o w v rows lt = elim (eqb_tells w v) [ inl e ↦ same e.1 ∙ ap (λ t. 
 named_more : (o : Occurrence) (v w : ℕ) (ws : List ℕ) → named o v (w ∷ ws) ≡ named o v (w ∷ []) ++ named o v ws
 named_more o v w ws = elim (eqb_tells w v) [ inl e ↦ ap (λ t. cond t (o ∷ named o v ws) (named o v ws)) e.0 ∙ ap (λ t. cond t (o ∷ []) [] ++ named o v ws) (sym e.0) | inr n ↦ ap (λ t. cond t (o ∷ named o v ws) (named o v ws)) n.0 ∙ ap (λ t. cond t (o ∷ []) [] ++ named o v ws) (sym n.0) ]
 
-pub add_length : (o : Occurrence) (ws : List ℕ) (rows : List (List Occurrence)) → length (add_all o ws rows) ≡ length rows
-add_length o [] rows = refl
-add_length o (w ∷ ws) rows = add_length o ws (add o w rows) ∙ length-set rows w (row rows w ++ o ∷ [])
+own_name : (b k v w : ℕ) → named (occurrence b k false w) v (w ∷ []) ≡ named (occurrence b k false v) v (w ∷ [])
+own_name b k v w = elim (eqb_tells w v) [ inl e ↦ ap (λ u. named (occurrence b k false u) v (w ∷ [])) e.1 | inr n ↦ ap (λ t. cond t (occurrence b k false w ∷ []) []) n.0 ∙ ap (λ t. cond t (occurrence b k false v ∷ []) []) (sym n.0) ]
 
-pub row_add_all : (o : Occurrence) (ws : List ℕ) (v : ℕ) (rows : List (List Occurrence)) → AllBelow (length rows) ws → row (add_all o ws rows) v ≡ row rows v ++ named o v ws
-row_add_all o [] v rows b = sym (append-nil (row rows v))
-row_add_all o (w ∷ ws) v rows b =
-    row_add_all o ws v (add o w rows) (subst (λ n. AllBelow n ws) (sym (length-set rows w (row rows w ++ o ∷ []))) b.1)
-    ∙ ap (λ l. l ++ named o v ws) (row_add o w v rows b.0)
-    ∙ append_assoc (row rows v) (named o v (w ∷ [])) (named o v ws)
-    ∙ ap (λ l. row rows v ++ l) (sym (named_more o v w ws))
+pub add_length : (b k : ℕ) (ws : List ℕ) (rows : List (List Occurrence)) → length (add_all b k ws rows) ≡ length rows
+add_length b k [] rows = refl
+add_length b k (w ∷ ws) rows = add_length b k ws (add (occurrence b k false w) w rows) ∙ length-set rows w (row rows w ++ occurrence b k false w ∷ [])
+
+pub row_add_all : (b k : ℕ) (ws : List ℕ) (v : ℕ) (rows : List (List Occurrence)) → AllBelow (length rows) ws → row (add_all b k ws rows) v ≡ row rows v ++ named (occurrence b k false v) v ws
+row_add_all b k [] v rows l = sym (append-nil (row rows v))
+row_add_all b k (w ∷ ws) v rows l =
+    let o = occurrence b k false w in
+    let q = occurrence b k false v in
+    row_add_all b k ws v (add o w rows) (subst (λ n. AllBelow n ws) (sym (length-set rows w (row rows w ++ o ∷ []))) l.1)
+    ∙ ap (λ l. l ++ named q v ws) (row_add o w v rows l.0 ∙ ap (λ n. row rows v ++ n) (own_name b k v w))
+    ∙ append_assoc (row rows v) (named q v (w ∷ [])) (named q v ws)
+    ∙ ap (λ l. row rows v ++ l) (sym (named_more q v w ws))
+
+-- rows by keys
+by_more : (keys : List ℕ) (b k : ℕ) (s : Bool) (h w : ℕ) (ws : List ℕ) → named_by keys b k s h (w ∷ ws) ≡ named_by keys b k s h (w ∷ []) ++ named_by keys b k s h ws
+by_more keys b k s h w ws = go (slice_index keys w == h)
+  where
+    go : (t : Bool) → cond t (occurrence b k s w ∷ named_by keys b k s h ws) (named_by keys b k s h ws) ≡ cond t (occurrence b k s w ∷ []) [] ++ named_by keys b k s h ws
+    go true = refl
+    go false = refl
+
+pub all_length : (keys : List ℕ) (b k : ℕ) (s : Bool) (ws : List ℕ) (rows : List (List Occurrence)) → length (all_by keys b k s ws rows) ≡ length rows
+all_length keys b k s [] rows = refl
+all_length keys b k s (w ∷ ws) rows = all_length keys b k s ws (add (occurrence b k s w) (slice_index keys w) rows) ∙ length-set rows (slice_index keys w) (row rows (slice_index keys w) ++ occurrence b k s w ∷ [])
+
+pub row_all_by : (keys : List ℕ) (b k : ℕ) (s : Bool) (ws : List ℕ) (h : ℕ) (rows : List (List Occurrence)) → AllBelow (length keys) ws → Places (length keys) (length rows) keys → row (all_by keys b k s ws rows) h ≡ row rows h ++ named_by keys b k s h ws
+row_all_by keys b k s [] h rows l pl = sym (append-nil (row rows h))
+row_all_by keys b k s (w ∷ ws) h rows l pl =
+    let o = occurrence b k s w in
+    let i = slice_index keys w in
+    row_all_by keys b k s ws h (add o i rows) l.1 (subst (λ n. Places (length keys) n keys) (sym (length-set rows i (row rows i ++ o ∷ []))) pl)
+    ∙ ap (λ l. l ++ named_by keys b k s h ws) (row_add o i h rows (pl.each w l.0))
+    ∙ append_assoc (row rows h) (named_by keys b k s h (w ∷ [])) (named_by keys b k s h ws)
+    ∙ ap (λ l. row rows h ++ l) (sym (by_more keys b k s h w ws))
+
+-- where each value has its own key
+module _ (keys : List ℕ) (n v : ℕ) (own : (w : ℕ) → w < n → slice_index keys w ≡ w) where
+  own_named : (b k : ℕ) (s : Bool) (ws : List ℕ) → AllBelow n ws → named_by keys b k s v ws ≡ named (occurrence b k s v) v ws
+  own_named b k s [] l = refl
+  own_named b k s (w ∷ ws) l =
+      let e = own_named b k s ws l.1 in
+      ap (λ u. cond (u == v) (occurrence b k s w ∷ named_by keys b k s v ws) (named_by keys b k s v ws)) (own w l.0)
+      ∙ elim (eqb_tells w v) [ inl q ↦ ap (λ t. cond t (occurrence b k s w ∷ named_by keys b k s v ws) (named_by keys b k s v ws)) q.0 ∙ ap (λ u. occurrence b k s u ∷ named_by keys b k s v ws) q.1 ∙ ap (λ l. occurrence b k s v ∷ l) e ∙ ap (λ t. cond t (occurrence b k s v ∷ named (occurrence b k s v) v ws) (named (occurrence b k s v) v ws)) (sym q.0) | inr q ↦ ap (λ t. cond t (occurrence b k s w ∷ named_by keys b k s v ws) (named_by keys b k s v ws)) q.0 ∙ e ∙ ap (λ t. cond t (occurrence b k s v ∷ named (occurrence b k s v) v ws) (named (occurrence b k s v) v ws)) (sym q.0) ]
+
+  own_insns : (b k : ℕ) (xs : List BlockInsn) (e : BlockEnd) → All (InsnBelow n) xs → AllBelow n (end_uses e) → in_insns_by keys v b k xs e ≡ in_insns v b k xs e
+  own_insns b k [] e w l = own_named b k false (end_uses e) l
+  own_insns b k (x ∷ xs) e w l =
+      let here = w 0 x (omega arith) in
+      let rest = own_insns b (k + 1) xs e (λ i d lt. w (suc i) d (omega (arith, lt))) l in
+      ap (λ r. named_by keys b k false v (uses_of x) ++ (named_by keys b k true v (sets x) ++ r)) rest
+      ∙ ap (λ r. named_by keys b k false v (uses_of x) ++ (r ++ in_insns v b (k + 1) xs e)) (own_named b k true (sets x) here.1)
+      ∙ ap (λ r. r ++ (named (occurrence b k true v) v (sets x) ++ in_insns v b (k + 1) xs e)) (own_named b k false (uses_of x) here.0)
+
+  pub own_blocks : (m b k : ℕ) (bs : List Block) → All (BlockBelow n m) bs → in_blocks_by keys v b k bs ≡ in_blocks v b k bs
+  own_blocks m b k [] w = refl
+  own_blocks m b k (x ∷ bs) w =
+      let here = w 0 x (omega arith) in
+      ap (λ r. in_insns_by keys v b k x.insns x.end ++ r) (own_blocks m (b + 1) (k + (length x.insns + 1)) bs (λ i d lt. w (suc i) d (omega (arith, lt))))
+      ∙ ap (λ r. r ++ in_blocks v (b + 1) (k + (length x.insns + 1)) bs) (own_insns b k x.insns x.end here.0 here.1)
 
 -- a fact of each
 pub each_append : (P : Occurrence → Type 0) (os more : List Occurrence) → Each P os → Each P more → Each P (os ++ more)
@@ -104,12 +158,12 @@ module _ (p : BlockProc) (v b : ℕ) (block : Block) (g : slice_get p.blocks b �
   sound_insns : (ran xs : List BlockInsn) (k : ℕ) → block.insns ≡ ran ++ xs → k ≡ total (take b p.blocks) + length ran → Each (Sound p v) (in_insns v b k xs block.end)
   sound_insns ran [] k e q =
       let n = ap length e in let m = length-append ran [] in
-      each_named (Sound p v) (occurrence b k false) v (end_uses block.end) (λ h. (inr (record { at = b; block = block; is_block = g; ran = ran; rest = []; insns = e; numbered = q; present = inr (UsedLast block.end (among_is v (end_uses block.end) h)) }), omega (arith, q, n, m, under), lt))
+      each_named (Sound p v) (occurrence b k false v) v (end_uses block.end) (λ h. (inr (record { at = b; block = block; is_block = g; ran = ran; rest = []; insns = e; numbered = q; present = inr (UsedLast block.end (among_is v (end_uses block.end) h)) }), omega (arith, q, n, m, under), lt))
   sound_insns ran (x ∷ xs) k e q =
       let n = ap length e in let m = length-append ran (x ∷ xs) in
       let below : k < total p.blocks = omega (arith, q, n, m, under) in
       let l = length-append ran (x ∷ []) in
-      each_append (Sound p v) (named (occurrence b k false) v (uses_of x)) (named (occurrence b k true) v (sets x) ++ in_insns v b (k + 1) xs block.end) (each_named (Sound p v) (occurrence b k false) v (uses_of x) (λ h. (inr (record { at = b; block = block; is_block = g; ran = ran; rest = x ∷ xs; insns = e; numbered = q; present = inr (Used x xs block.end (among_is v (uses_of x) h)) }), below, lt))) (each_append (Sound p v) (named (occurrence b k true) v (sets x)) (in_insns v b (k + 1) xs block.end) (each_named (Sound p v) (occurrence b k true) v (sets x) (λ h. (inr (record { at = b; block = block; is_block = g; ran = ran; rest = x ∷ xs; insns = e; numbered = q; present = inl (among_is v (sets x) h) }), below, lt))) (sound_insns (ran ++ x ∷ []) xs (k + 1) (e ∙ sym (append_assoc ran (x ∷ []) xs)) (omega (arith, q, l))))
+      each_append (Sound p v) (named (occurrence b k false v) v (uses_of x)) (named (occurrence b k true v) v (sets x) ++ in_insns v b (k + 1) xs block.end) (each_named (Sound p v) (occurrence b k false v) v (uses_of x) (λ h. (inr (record { at = b; block = block; is_block = g; ran = ran; rest = x ∷ xs; insns = e; numbered = q; present = inr (Used x xs block.end (among_is v (uses_of x) h)) }), below, lt))) (each_append (Sound p v) (named (occurrence b k true v) v (sets x)) (in_insns v b (k + 1) xs block.end) (each_named (Sound p v) (occurrence b k true v) v (sets x) (λ h. (inr (record { at = b; block = block; is_block = g; ran = ran; rest = x ∷ xs; insns = e; numbered = q; present = inl (among_is v (sets x) h) }), below, lt))) (sound_insns (ran ++ x ∷ []) xs (k + 1) (e ∙ sym (append_assoc ran (x ∷ []) xs)) (omega (arith, q, l))))
 
 pub all_sound : (p : BlockProc) (v : ℕ) → Each (Sound p v) (in_blocks v 0 0 p.blocks)
 all_sound p v = each_blocks (Sound p v) v p.blocks 0 0 (λ i x g. subst (λ n. Each (Sound p v) (in_insns v n (0 + total (take i p.blocks)) x.insns x.end)) (let q : i ≡ 0 + i = omega arith in q) (sound_insns p v i x g [] x.insns (0 + total (take i p.blocks)) refl (omega arith)))
@@ -134,36 +188,36 @@ pick : (t s : Bool) (x y : Option Bool) → cond t (Some s) (otherwise x y) ≡ 
 pick true s x y = refl
 pick false s x y = refl
 
-pub first_named : (b k : ℕ) (s : Bool) (v : ℕ) (ws : List ℕ) (more : List Occurrence) → first_in b (named (occurrence b k s) v ws ++ more) ≡ cond (among v ws) (Some s) (first_in b more)
+pub first_named : (b k : ℕ) (s : Bool) (v : ℕ) (ws : List ℕ) (more : List Occurrence) → first_in b (named (occurrence b k s v) v ws ++ more) ≡ cond (among v ws) (Some s) (first_in b more)
 first_named b k s v [] more = refl
 first_named b k s v (w ∷ ws) more =
-    let o = occurrence b k s in
+    let o = occurrence b k s v in
     let n = named o v ws in
     elim (eqb_tells w v) [ inl e ↦ ap (λ t. first_in b (cond t (o ∷ n) n ++ more)) e.0 ∙ ap (λ t. cond t (Some s) (first_in b (n ++ more))) (eq-eqb b b refl) ∙ ap (λ t. cond (t || among v ws) (Some s) (first_in b more)) (sym e.0) | inr q ↦ ap (λ t. first_in b (cond t (o ∷ n) n ++ more)) q.0 ∙ first_named b k s v ws more ∙ ap (λ t. cond (t || among v ws) (Some s) (first_in b more)) (sym q.0) ]
 
 first_insns : (v b k : ℕ) (xs : List BlockInsn) (e : BlockEnd) (more : List Occurrence) → first_in b (in_insns v b k xs e ++ more) ≡ otherwise (kind_of v xs e) (first_in b more)
 first_insns v b k [] e more = first_named b k false v (end_uses e) more ∙ pick (among v (end_uses e)) false None (first_in b more)
 first_insns v b k (x ∷ xs) e more =
-    let n1 = named (occurrence b k false) v (uses_of x) in
-    let n2 = named (occurrence b k true) v (sets x) in
+    let n1 = named (occurrence b k false v) v (uses_of x) in
+    let n2 = named (occurrence b k true v) v (sets x) in
     let rest = in_insns v b (k + 1) xs e in
     ap (λ l. first_in b l) (append_assoc n1 (n2 ++ rest) more)
     ∙ first_named b k false v (uses_of x) (n2 ++ rest ++ more)
     ∙ ap (λ f. cond (among v (uses_of x)) (Some false) f) (ap (λ l. first_in b l) (append_assoc n2 rest more) ∙ first_named b k true v (sets x) (rest ++ more) ∙ ap (λ f. cond (among v (sets x)) (Some true) f) (first_insns v b (k + 1) xs e more) ∙ pick (among v (sets x)) true (kind_of v xs e) (first_in b more))
     ∙ pick (among v (uses_of x)) false (cond (among v (sets x)) (Some true) (kind_of v xs e)) (first_in b more)
 
-pub skip_named : (c b k : ℕ) (s : Bool) (v : ℕ) (ws : List ℕ) (more : List Occurrence) → b ≢ c → first_in c (named (occurrence b k s) v ws ++ more) ≡ first_in c more
+pub skip_named : (c b k : ℕ) (s : Bool) (v : ℕ) (ws : List ℕ) (more : List Occurrence) → b ≢ c → first_in c (named (occurrence b k s v) v ws ++ more) ≡ first_in c more
 skip_named c b k s v [] more ne = refl
 skip_named c b k s v (w ∷ ws) more ne =
-    let o = occurrence b k s in
+    let o = occurrence b k s v in
     let n = named o v ws in
     elim (eqb_tells w v) [ inl e ↦ ap (λ t. first_in c (cond t (o ∷ n) n ++ more)) e.0 ∙ ap (λ t. cond t (Some s) (first_in c (n ++ more))) (ne_eqb b c ne) ∙ skip_named c b k s v ws more ne | inr q ↦ ap (λ t. first_in c (cond t (o ∷ n) n ++ more)) q.0 ∙ skip_named c b k s v ws more ne ]
 
 skip_insns : (c v b k : ℕ) (xs : List BlockInsn) (e : BlockEnd) (more : List Occurrence) → b ≢ c → first_in c (in_insns v b k xs e ++ more) ≡ first_in c more
 skip_insns c v b k [] e more ne = skip_named c b k false v (end_uses e) more ne
 skip_insns c v b k (x ∷ xs) e more ne =
-    let n1 = named (occurrence b k false) v (uses_of x) in
-    let n2 = named (occurrence b k true) v (sets x) in
+    let n1 = named (occurrence b k false v) v (uses_of x) in
+    let n2 = named (occurrence b k true v) v (sets x) in
     let rest = in_insns v b (k + 1) xs e in
     ap (λ l. first_in c l) (append_assoc n1 (n2 ++ rest) more)
     ∙ skip_named c b k false v (uses_of x) (n2 ++ rest ++ more) ne
@@ -221,15 +275,15 @@ module _ (v b : ℕ) (live : ℕ → Bool) (e : BlockEnd) (r : Range) where
 
   parts : (x : BlockInsn) (xs : List BlockInsn) (k : ℕ) → Each Cov (in_insns v b k (x ∷ xs) e) → (among v (uses_of x) ≡ true → Covers r k) × (among v (sets x) ≡ true → Covers r k) × Each Cov (in_insns v b (k + 1) xs e)
   parts x xs k a =
-      let n1 = named (occurrence b k false) v (uses_of x) in
-      let n2 = named (occurrence b k true) v (sets x) in
+      let n1 = named (occurrence b k false v) v (uses_of x) in
+      let n2 = named (occurrence b k true v) v (sets x) in
       let rest = in_insns v b (k + 1) xs e in
       let one = each_split Cov n1 (n2 ++ rest) a in
       let two = each_split Cov n2 rest one.1 in
-      (λ h. of_named Cov (occurrence b k false) v (uses_of x) one.0 h, λ h. of_named Cov (occurrence b k true) v (sets x) two.0 h, two.1)
+      (λ h. of_named Cov (occurrence b k false v) v (uses_of x) one.0 h, λ h. of_named Cov (occurrence b k true v) v (sets x) two.0 h, two.1)
 
   upper : (xs : List BlockInsn) (k : ℕ) → Each Cov (in_insns v b k xs e) → (any_live live (goes_to e) ≡ true → k + length xs ≤ r.last) → here v live xs e ≡ true → k ≤ r.last
-  upper [] k a last h = elim (true_or (among v (end_uses e)) (any_live live (goes_to e)) h) [ inl u ↦ (of_named Cov (occurrence b k false) v (end_uses e) a u).1 | inr l ↦ (let m = last l in omega (arith, m)) ]
+  upper [] k a last h = elim (true_or (among v (end_uses e)) (any_live live (goes_to e)) h) [ inl u ↦ (of_named Cov (occurrence b k false v) v (end_uses e) a u).1 | inr l ↦ (let m = last l in omega (arith, m)) ]
   upper (x ∷ xs) k a last h =
       let ps = parts x xs k a in
       go ps.0 ps.1 (λ l. upper xs (k + 1) ps.2 (λ y. let m = last y in omega (arith, m)) (or_right (sets_first v xs) (lives v live xs e) l)) (true_or (among v (sets x)) (lives v live (x ∷ xs) e) h)

@@ -18,14 +18,14 @@ use Rattle.reg_alloc.specs.Live.{LiveAt, Present, Occurs, SetsFirst}
 use Rattle.reg_alloc.specs.Live.LiveAt.{Gone}
 use Rattle.reg_alloc.specs.Occurs.{occurrence, named, Each, widened, hull, marked, stacked, first_in, not_set, alive, in_blocks, ends_to}
 use Rattle.reg_alloc.specs.Ranges.{lives, any_live, sets_first, here, Known, LiveBlock, RangeOk, Covers, CoversAll, Settled, SettledAt, end_of, Search, RangeOf}
-use Rattle.reg_alloc.proofs.Analysis.{same_or, among_front, among_last, among_split}
+use Rattle.reg_alloc.proofs.Lists.{same_or, among_front, among_last, among_split}
 use Rattle.reg_alloc.proofs.Exact.{total_under}
 use Rattle.reg_alloc.proofs.Paths.{among_of, contains_of}
 use Rattle.reg_alloc.proofs.Ranging.{lives_sound, lives_complete, Closed, or_left, or_right, two_true, and_true, target_live, live_target, among_is, is_among}
 use Rattle.reg_alloc.proofs.Occurring.{each_append, each_map, each_named, Sound, all_sound, of_block, kind_of, by_kind, first_named, skip_named, first_block, lives_by_kind, all_of_it}
 use Rattle.reg_alloc.proofs.Searching.{marked_length, marked_keeps, marked_gains, marked_only, marked_under, Fresh, stacked_keeps, stacked_gains, stacked_only, Wider, covers_wider, hull_wider, hull_covers, widened_ok, hull_ok}
 
-is_block : (bs : List Block) (t : ℕ) → t < length bs → (b : Block) × (slice_get bs t ≡ Some b)
+pub is_block : (bs : List Block) (t : ℕ) → t < length bs → (b : Block) × (slice_get bs t ≡ Some b)
 is_block [] t lt = absurd (omega (arith, lt))
 is_block (x ∷ xs) zero lt = (x, refl)
 is_block (x ∷ xs) (suc t) lt = is_block xs t (omega (arith, lt))
@@ -34,22 +34,22 @@ inside : (marks : List ℕ) (c m : ℕ) → 0 < m → slice_index marks c ≡ m 
 inside marks c m lt h = elim (cases_lt c (length marks)) [ inl l ↦ l | inr g ↦ absurd (let z = get_or_past marks c 0 g in omega (arith, z, h, lt)) ]
 
 -- the ends that go to a block
-abbrev Source : BlockProc → ℕ → Occurrence → Type 0
+abbrev pub Source : BlockProc → ℕ → Occurrence → Type 0
 Source p t o = Among t (next_of p.blocks o.block) × (o.insn ≡ end_of p o.block) × (o.sets ≡ false) × (o.block < length p.blocks)
 
-each_ends : (P : Occurrence → Type 0) (t : ℕ) (bs : List Block) (b k : ℕ) → ((i : ℕ) (x : Block) → slice_get bs i ≡ Some x → Contains (goes_to x.end) t → P (occurrence (b + i) (k + total (take i bs) + length x.insns) false)) → Each P (ends_to t b k bs)
+each_ends : (P : Occurrence → Type 0) (t : ℕ) (bs : List Block) (b k : ℕ) → ((i : ℕ) (x : Block) → slice_get bs i ≡ Some x → Contains (goes_to x.end) t → P (occurrence (b + i) (k + total (take i bs) + length x.insns) false t)) → Each P (ends_to t b k bs)
 each_ends P t [] b k all = tt
 each_ends P t (x ∷ bs) b k all =
-    let o = occurrence b (k + length x.insns) false in
+    let o = occurrence b (k + length x.insns) false t in
     each_append P (named o t (goes_to x.end)) (ends_to t (b + 1) (k + (length x.insns + 1)) bs) (each_named P o t (goes_to x.end) (λ h. moved (b + 0) b (k + 0 + length x.insns) (k + length x.insns) (omega arith) (omega arith) (all 0 x refl (among_is t (goes_to x.end) h)))) (each_ends P t bs (b + 1) (k + (length x.insns + 1)) (λ i y g m. moved (b + suc i) (b + 1 + i) (k + (length x.insns + 1 + total (take i bs)) + length y.insns) (k + (length x.insns + 1) + total (take i bs) + length y.insns) (omega arith) (omega arith) (all (suc i) y g m)))
   where
-    moved : (b c k l : ℕ) → b ≡ c → k ≡ l → P (occurrence b k false) → P (occurrence c l false)
-    moved b c k l eb ek a = subst (λ n. P (occurrence c n false)) ek (subst (λ n. P (occurrence n k false)) eb a)
+    moved : (b c k l : ℕ) → b ≡ c → k ≡ l → P (occurrence b k false t) → P (occurrence c l false t)
+    moved b c k l eb ek a = subst (λ n. P (occurrence c n false t)) ek (subst (λ n. P (occurrence n k false t)) eb a)
 
-sources_sound : (p : BlockProc) (t : ℕ) → Each (Source p t) (ends_to t 0 0 p.blocks)
-sources_sound p t = each_ends (Source p t) t p.blocks 0 0 (λ i x g m. subst (λ n. Source p t (occurrence n (0 + total (take i p.blocks) + length x.insns) false)) (let q : i ≡ 0 + i = omega arith in q) (one i x g m))
+pub sources_sound : (p : BlockProc) (t : ℕ) → Each (Source p t) (ends_to t 0 0 p.blocks)
+sources_sound p t = each_ends (Source p t) t p.blocks 0 0 (λ i x g m. subst (λ n. Source p t (occurrence n (0 + total (take i p.blocks) + length x.insns) false t)) (let q : i ≡ 0 + i = omega arith in q) (one i x g m))
   where
-    one : (i : ℕ) (x : Block) → slice_get p.blocks i ≡ Some x → Contains (goes_to x.end) t → Source p t (occurrence i (0 + total (take i p.blocks) + length x.insns) false)
+    one : (i : ℕ) (x : Block) → slice_get p.blocks i ≡ Some x → Contains (goes_to x.end) t → Source p t (occurrence i (0 + total (take i p.blocks) + length x.insns) false t)
     one i x g m =
         let n : length (insns_of p.blocks i) ≡ length x.insns = ap (λ o. length (insns_in o)) g in
         (subst (λ ts. Among t ts) (sym (ap goes_in g)) (among_of t (goes_to x.end) m), omega (arith, n), refl, slice_get_within p.blocks i x g)
@@ -61,7 +61,7 @@ first_ends t (y ∷ bs) b k zero x g m =
     let more = ends_to t (b + 1) (k + (length y.insns + 1)) bs in
     let q : b + 0 ≡ b = omega arith in
     let a = is_among t (goes_to y.end) (subst (λ (z : Block). Contains (goes_to z.end) t) (sym e) m) in
-    ap (λ n. first_in n (named (occurrence b (k + length y.insns) false) t (goes_to y.end) ++ more)) q ∙ first_named b (k + length y.insns) false t (goes_to y.end) more ∙ ap (λ s. cond s (Some false) (first_in b more)) a
+    ap (λ n. first_in n (named (occurrence b (k + length y.insns) false t) t (goes_to y.end) ++ more)) q ∙ first_named b (k + length y.insns) false t (goes_to y.end) more ∙ ap (λ s. cond s (Some false) (first_in b more)) a
 first_ends t (y ∷ bs) b k (suc i) x g m =
     let more = ends_to t (b + 1) (k + (length y.insns + 1)) bs in
     let q : b + suc i ≡ b + 1 + i = omega arith in
@@ -71,14 +71,14 @@ first_ends t (y ∷ bs) b k (suc i) x g m =
 abbrev Edge : BlockProc → ℕ → ℕ → Type 0
 Edge p c t = (x : Block) × (slice_get p.blocks c ≡ Some x) × Contains (goes_to x.end) t
 
-edge_of : (p : BlockProc) (c t : ℕ) → Among t (next_of p.blocks c) → Edge p c t
+pub edge_of : (p : BlockProc) (c t : ℕ) → Among t (next_of p.blocks c) → Edge p c t
 edge_of p c t a = go (slice_get p.blocks c) refl
   where
     go : (o : Option Block) → slice_get p.blocks c ≡ o → Edge p c t
     go None e = let n : Among t [] = subst (λ ts. Among t ts) (ap goes_in e) a in absurd n
     go (Some x) e = (x, e, contains_of t (goes_to x.end) (subst (λ ts. Among t ts) (ap goes_in e) a))
 
-first_source : (p : BlockProc) (c t : ℕ) → Among t (next_of p.blocks c) → first_in c (ends_to t 0 0 p.blocks) ≡ Some false
+pub first_source : (p : BlockProc) (c t : ℕ) → Among t (next_of p.blocks c) → first_in c (ends_to t 0 0 p.blocks) ≡ Some false
 first_source p c t a =
     let e = edge_of p c t a in
     ap (λ n. first_in n (ends_to t 0 0 p.blocks)) (let q : c ≡ 0 + c = omega arith in q) ∙ first_ends t p.blocks 0 0 c e.0 e.1 e.2

@@ -6,7 +6,7 @@ use Rattle.flatten.specs.declared.blocks.BlockProc.{BlockProc}
 use Rattle.reg_alloc.specs.Live.{Present, InRange, Crowded}
 use Rattle.reg_alloc.specs.declared.ranges.Range.{Range}
 use Rattle.reg_alloc.specs.Scan.{first_of, last_of, Ranges, User, Scan, IsFree, IsBusy}
-use Rattle.reg_alloc.proofs.Analysis.{same_or}
+use Rattle.reg_alloc.proofs.Lists.{same_or}
 
 module _ (p : BlockProc) (ranges : List Range) (choices users : List ℕ) (k0 k v : ℕ) (rs : Ranges p ranges) (lv : v < p.values) (begins : first_of ranges v ≡ k) (inside : k < 4294967295) (up : k0 ≤ k) (fresh : slice_index choices v ≡ 13) (s : Scan p ranges choices users k0) where
   -- the range of one that is chosen is not empty

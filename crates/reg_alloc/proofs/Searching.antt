@@ -16,7 +16,7 @@ use Rattle.reg_alloc.specs.Steps.{Among, goes_in, insns_in, insns_of, next_of}
 use Rattle.reg_alloc.specs.Live.{Present}
 use Rattle.reg_alloc.specs.Occurs.{Each, widened, hull, marked, stacked, unmarked, first_in, not_set, alive, in_blocks}
 use Rattle.reg_alloc.specs.Ranges.{lives, any_live, Known, LiveBlock, RangeOk, Covers, end_of, Search}
-use Rattle.reg_alloc.proofs.Analysis.{same_or, among_front, among_last, among_split}
+use Rattle.reg_alloc.proofs.Lists.{same_or, among_front, among_last, among_split}
 use Rattle.reg_alloc.proofs.Paths.{contains_of}
 use Rattle.reg_alloc.proofs.Ranging.{lives_sound, or_left, or_right, two_true, and_true, target_live}
 use Rattle.reg_alloc.proofs.Occurring.{each_map, Sound, kind_of, first_block, lives_by_kind, by_kind}
@@ -101,7 +101,7 @@ pick t = cond t 0 1
 abbrev open_at : ℕ → ℕ → ℕ
 open_at m x = pick (x == m)
 
-set_unmarked : (m : ℕ) (marks : List ℕ) (b : ℕ) → b < length marks → unmarked m (slice_set marks b m) + cond (slice_index marks b == m) 0 1 ≤ unmarked m marks
+pub set_unmarked : (m : ℕ) (marks : List ℕ) (b : ℕ) → b < length marks → unmarked m (slice_set marks b m) + cond (slice_index marks b == m) 0 1 ≤ unmarked m marks
 set_unmarked m [] b lt = absurd (omega (arith, lt))
 set_unmarked m (x ∷ xs) zero lt = let e : open_at m m ≡ 0 = ap pick (eq-eqb m m refl) in omega (arith, e)
 set_unmarked m (x ∷ xs) (suc b) lt = let r = set_unmarked m xs b (omega (arith, lt)) in omega (arith, r)

@@ -9,7 +9,7 @@ use Rattle.std.proofs.Math.Seq.{get_or-append_seam}
 use Rattle.reg_alloc.specs.declared.ranges.Range.{Range}
 use Rattle.reg_alloc.specs.declared.scan.Start.{Start}
 use Rattle.reg_alloc.specs.Scan.{first_of, no_range, Starts}
-use Rattle.reg_alloc.proofs.Analysis.{same_or}
+use Rattle.reg_alloc.proofs.Lists.{same_or}
 
 abbrev pub start_of : List Range → ℕ → Start
 start_of ranges v = record { first = first_of ranges v; value = v }

@@ -1,8 +1,8 @@
 pub mod Steps
-pub mod Flow
 pub mod Rows
 pub mod Live
 pub mod Occurs
+pub mod Trace
 pub mod Ranges
 pub mod Scan
 pub mod All

@@ -9,35 +9,49 @@ use Rattle.block_homes.specs.Held.{total}
 use Rattle.reg_alloc.specs.declared.occurrences.Occurrence.{Occurrence}
 use Rattle.reg_alloc.specs.declared.ranges.Range.{Range}
 
-abbrev pub occurrence : ℕ → ℕ → Bool → Occurrence
-occurrence b k s = record { block = b; insn = k; sets = s }
+abbrev pub occurrence : ℕ → ℕ → Bool → ℕ → Occurrence
+occurrence b k s v = record { block = b; insn = k; sets = s; named = v }
 
 abbrev pub row : List (List Occurrence) → ℕ → List Occurrence
 row rows v = slice_index_or rows v []
 
--- added to the rows of these numbers
+-- added to the row of this number
 abbrev pub add : Occurrence → ℕ → List (List Occurrence) → List (List Occurrence)
 add o v rows = slice_set rows v (slice_index_or rows v [] ++ o ∷ [])
 
-abbrev pub add_all : Occurrence → List ℕ → List (List Occurrence) → List (List Occurrence)
-add_all o [] rows = rows
-add_all o (v ∷ vs) rows = add_all o vs (add o v rows)
+-- the instruction is added to the rows of the values that it names; each value has a row by its key
+abbrev pub all_by : List ℕ → ℕ → ℕ → Bool → List ℕ → List (List Occurrence) → List (List Occurrence)
+all_by keys b k s [] rows = rows
+all_by keys b k s (v ∷ vs) rows = all_by keys b k s vs (add (occurrence b k s v) (slice_index keys v) rows)
 
-abbrev pub add_insn : ℕ → ℕ → BlockInsn → List (List Occurrence) → List (List Occurrence)
-add_insn b k x rows = add_all (occurrence b k true) (sets x) (add_all (occurrence b k false) (uses_of x) rows)
+abbrev pub insn_by : List ℕ → ℕ → ℕ → BlockInsn → List (List Occurrence) → List (List Occurrence)
+insn_by keys b k x rows = all_by keys b k true (sets x) (all_by keys b k false (uses_of x) rows)
 
-abbrev pub add_insns : ℕ → ℕ → List BlockInsn → BlockEnd → List (List Occurrence) → List (List Occurrence)
-add_insns b k [] e rows = add_all (occurrence b k false) (end_uses e) rows
-add_insns b k (x ∷ xs) e rows = add_insns b (k + 1) xs e (add_insn b k x rows)
-
-abbrev pub add_blocks : ℕ → ℕ → List Block → List (List Occurrence) → List (List Occurrence)
-add_blocks b k [] rows = rows
-add_blocks b k (x ∷ xs) rows = add_blocks (b + 1) (k + (length x.insns + 1)) xs (add_insns b k x.insns x.end rows)
+abbrev pub insns_by : List ℕ → ℕ → ℕ → List BlockInsn → BlockEnd → List (List Occurrence) → List (List Occurrence)
+insns_by keys b k [] e rows = all_by keys b k false (end_uses e) rows
+insns_by keys b k (x ∷ xs) e rows = insns_by keys b (k + 1) xs e (insn_by keys b k x rows)
 
 -- the end of each block is added to the blocks to which it goes
-abbrev pub add_sources : ℕ → ℕ → List Block → List (List Occurrence) → List (List Occurrence)
-add_sources b k [] rows = rows
-add_sources b k (x ∷ xs) rows = add_sources (b + 1) (k + (length x.insns + 1)) xs (add_all (occurrence b (k + length x.insns) false) (goes_to x.end) rows)
+abbrev pub add_all : ℕ → ℕ → List ℕ → List (List Occurrence) → List (List Occurrence)
+add_all b k [] rows = rows
+add_all b k (t ∷ ts) rows = add_all b k ts (add (occurrence b k false t) t rows)
+
+-- the occurrences of the values with one key
+abbrev pub named_by : List ℕ → ℕ → ℕ → Bool → ℕ → List ℕ → List Occurrence
+named_by keys b k s h [] = []
+named_by keys b k s h (w ∷ ws) = cond (slice_index keys w == h) (occurrence b k s w ∷ named_by keys b k s h ws) (named_by keys b k s h ws)
+
+abbrev pub in_insns_by : List ℕ → ℕ → ℕ → ℕ → List BlockInsn → BlockEnd → List Occurrence
+in_insns_by keys h b k [] e = named_by keys b k false h (end_uses e)
+in_insns_by keys h b k (x ∷ xs) e = named_by keys b k false h (uses_of x) ++ (named_by keys b k true h (sets x) ++ in_insns_by keys h b (k + 1) xs e)
+
+abbrev pub in_blocks_by : List ℕ → ℕ → ℕ → ℕ → List Block → List Occurrence
+in_blocks_by keys h b k [] = []
+in_blocks_by keys h b k (x ∷ xs) = in_insns_by keys h b k x.insns x.end ++ in_blocks_by keys h (b + 1) (k + (length x.insns + 1)) xs
+
+pub record OccurrencesBy (keys : List ℕ) (count : ℕ) (p : BlockProc) (rows : List (List Occurrence)) : Type 0 where
+  pub counted : length rows ≡ count
+  pub each : (h : ℕ) → h < count → row rows h ≡ in_blocks_by keys h 0 0 p.blocks
 
 -- the occurrences of one value
 abbrev pub named : Occurrence → ℕ → List ℕ → List Occurrence
@@ -45,8 +59,8 @@ named o v [] = []
 named o v (w ∷ ws) = cond (w == v) (o ∷ named o v ws) (named o v ws)
 
 abbrev pub in_insns : ℕ → ℕ → ℕ → List BlockInsn → BlockEnd → List Occurrence
-in_insns v b k [] e = named (occurrence b k false) v (end_uses e)
-in_insns v b k (x ∷ xs) e = named (occurrence b k false) v (uses_of x) ++ (named (occurrence b k true) v (sets x) ++ in_insns v b (k + 1) xs e)
+in_insns v b k [] e = named (occurrence b k false v) v (end_uses e)
+in_insns v b k (x ∷ xs) e = named (occurrence b k false v) v (uses_of x) ++ (named (occurrence b k true v) v (sets x) ++ in_insns v b (k + 1) xs e)
 
 abbrev pub in_blocks : ℕ → ℕ → ℕ → List Block → List Occurrence
 in_blocks v b k [] = []
@@ -55,7 +69,7 @@ in_blocks v b k (x ∷ xs) = in_insns v b k x.insns x.end ++ in_blocks v (b + 1)
 -- and the ends that go to one block
 abbrev pub ends_to : ℕ → ℕ → ℕ → List Block → List Occurrence
 ends_to t b k [] = []
-ends_to t b k (x ∷ xs) = named (occurrence b (k + length x.insns) false) t (goes_to x.end) ++ ends_to t (b + 1) (k + (length x.insns + 1)) xs
+ends_to t b k (x ∷ xs) = named (occurrence b (k + length x.insns) false t) t (goes_to x.end) ++ ends_to t (b + 1) (k + (length x.insns + 1)) xs
 
 pub record Occurrences (p : BlockProc) (rows : List (List Occurrence)) : Type 0 where
   pub count : length rows ≡ p.values

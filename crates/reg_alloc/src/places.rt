@@ -1,14 +1,10 @@
-//! Rows of what places hold, along the instructions of a block.
+//! The places of values, and what they hold at the start of a procedure.
 
-ghost use Rattle.std.specs.Prelude.{◌≡◌, ℕ, ◌<◌, ◌^◌, [], ◌∷◌, length, All, slice_index, IfOk};
-ghost use Rattle.flatten.specs.Named.{AllBelow};
-ghost use Rattle.flatten.specs.Paths.{sets};
-ghost use Rattle.block_homes.specs.Held.{place, places_of as all_places, put, after};
-ghost use Rattle.block_homes.specs.Valid.{InsnBelow};
+ghost use Rattle.std.specs.Prelude.{◌≡◌, ℕ, ◌<◌, ◌≤◌, ◌^◌, length, slice_index, IfOk};
+ghost use Rattle.block_homes.specs.Held.{place, places_of as all_places, starting};
 ghost use Rattle.reg_alloc.specs.Rows.{Places, width};
 
 use block_homes::Home;
-use flatten::BlockInsn;
 use std::alloc::{AllocError, Global};
 
 fn place_of(home: &Home) -> usize
@@ -41,57 +37,26 @@ pub fn width_of(places: &[usize]) -> usize
     last + 1
 }
 
-// The row when the value has been written to its place.
-fn write_value(row: &mut Vec<u32>, v: u32, places: &[usize])
-    requires named { v < length places.now }
-    requires places { Places (length places.now) (length row.old.items) places.now }
-    ensures len { length row.new.items ≡ length row.old.items }
-    ensures cells { (h : ℕ) → h < length row.old.items → slice_index row.new.items h ≡ put places.now h (v ∷ []) (slice_index row.old.items h) }
+/// What the places hold when the parameters have been written.
+pub fn start_row(
+    alloc: Global,
+    places: &[usize],
+    params: u32,
+    size: usize,
+    none: u32,
+) -> Result<Vec<u32>, AllocError>
+    requires params { params ≤ length places.now }
+    requires places { Places (length places.now) size places.now }
+    ensures len { IfOk result (λ row. length row.items ≡ size) }
+    ensures cells { IfOk result (λ row. (h : ℕ) → h < size → slice_index row.items h ≡ starting places.now none h params) }
 {
-    let at = places[v as usize];
-    row[at] = v;
-}
-
-fn write_values(row: &mut Vec<u32>, values: &[u32], places: &[usize])
-    requires named { AllBelow (length places.now) values.now }
-    requires places { Places (length places.now) (length row.old.items) places.now }
-    ensures len { length row.new.items ≡ length row.old.items }
-    ensures cells { (h : ℕ) → h < length row.old.items → slice_index row.new.items h ≡ put places.now h values.now (slice_index row.old.items h) }
-{
-    for v in values {
-        write_value(row, *v, places);
+    let mut row = Vec::with_capacity(alloc, size)?;
+    for _ in 0..size {
+        row.push(none)?;
     }
-}
-
-// The row behind the instruction.
-pub fn run_insn(row: &mut Vec<u32>, insn: &BlockInsn, places: &[usize])
-    requires named { AllBelow (length places.now) (sets insn.now) }
-    requires places { Places (length places.now) (length row.old.items) places.now }
-    ensures len { length row.new.items ≡ length row.old.items }
-    ensures cells { (h : ℕ) → h < length row.old.items → slice_index row.new.items h ≡ put places.now h (sets insn.now) (slice_index row.old.items h) }
-{
-    match insn {
-        BlockInsn::Number(x, _) => write_value(row, *x, places),
-        BlockInsn::Copy(x, _) => write_value(row, *x, places),
-        BlockInsn::Binary(_, x, _, _) => write_value(row, *x, places),
-        BlockInsn::Load(x, _, _, _) => write_value(row, *x, places),
-        BlockInsn::Store(_, _, _) => {}
-        BlockInsn::ProcAddress(x, _) => write_value(row, *x, places),
-        BlockInsn::ImageAddress(x, _) => write_value(row, *x, places),
-        BlockInsn::Call(xs, _, _) => write_values(row, xs.as_slice(), places),
-        BlockInsn::CallAt(xs, _, _) => write_values(row, xs.as_slice(), places),
-        BlockInsn::Take(x) => write_value(row, *x, places),
-        BlockInsn::Give(_) => {}
+    for v in 0..params {
+        let at = places[v as usize];
+        row[at] = v;
     }
-}
-
-pub fn run_insns(row: &mut Vec<u32>, insns: &[BlockInsn], places: &[usize])
-    requires named { All (InsnBelow (length places.now)) insns.now }
-    requires places { Places (length places.now) (length row.old.items) places.now }
-    ensures len { length row.new.items ≡ length row.old.items }
-    ensures cells { (h : ℕ) → h < length row.old.items → slice_index row.new.items h ≡ after places.now h insns.now (slice_index row.old.items h) }
-{
-    for insn in insns {
-        run_insn(row, insn, places);
-    }
+    Ok(row)
 }

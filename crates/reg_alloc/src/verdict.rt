@@ -1,145 +1,19 @@
 //! The verdict on an assignment.
 
-ghost use Rattle.std.specs.Prelude.{◌≡◌, ℕ, ◌+◌, ◌<◌, ◌^◌, ◌==◌, [], length, slice_index, All, IfOk, MatchOption};
-ghost use Rattle.flatten.specs.Named.{AllBelow};
-ghost use Rattle.flatten.specs.Paths.{uses_of, end_uses};
+ghost use Rattle.std.specs.Prelude.{◌≡◌, ℕ, ◌+◌, ◌<◌, ◌^◌, length, IfOk, MatchOption};
 ghost use Rattle.block_homes.specs.Held.{total};
-ghost use Rattle.block_homes.specs.Valid.{InsnBelow, IsNamed, AreHomes, IsVerdict};
-ghost use Rattle.reg_alloc.specs.Rows.{Places, InvOf, width, holds, HoldsFrom, FirstFail, BlockAnswer, Judged};
+ghost use Rattle.block_homes.specs.Valid.{IsNamed, AreHomes, IsVerdict};
+ghost use Rattle.block_homes.specs.declared.homes.Verdict.TheVariants as V;
+ghost use Rattle.reg_alloc.specs.Rows.{Places, width, Judged};
 
-use crate::flow::analyse;
-use crate::places::{places_of, run_insn};
+use crate::occurrences::{occurrences_by, sources_of};
+use crate::places::{places_of, start_row, width_of};
+use crate::reach::reached_of;
+use crate::trace::{Facts, first_of_all};
 use block_homes::{Assignment, Verdict};
-use flatten::{Block, BlockEnd, BlockInsn, BlockProc};
-use jf_base::{List, Memory};
+use flatten::BlockProc;
+use jf_base::Memory;
 use std::alloc::{AllocError, Global};
-
-fn at_home(row: &[u32], places: &[usize], v: u32) -> bool
-    requires value { v < length places.now }
-    requires places { Places (length places.now) (length row.now) places.now }
-    ensures { result ≡ (slice_index row.now (slice_index places.now v) == v) }
-{
-    row[places[v as usize]] == v
-}
-
-#[tactic(auto, unfolding(crate::specs::Rows::holds))]
-fn all_at_home(row: &[u32], places: &[usize], values: &[u32]) -> bool
-    requires named { AllBelow (length places.now) values.now }
-    requires places { Places (length places.now) (length row.now) places.now }
-    ensures { result ≡ holds places.now row.now values.now }
-{
-    let mut rest = values;
-    while let Some((v, tail)) = rest.split_first() {
-        if !at_home(row, places, *v) {
-            return false;
-        }
-        rest = tail;
-    }
-    true
-}
-
-#[tactic(auto, unfolding(crate::specs::Rows::holds))]
-fn uses_held(row: &[u32], places: &[usize], insn: &BlockInsn) -> bool
-    requires named { AllBelow (length places.now) (uses_of insn.now) }
-    requires places { Places (length places.now) (length row.now) places.now }
-    ensures { result ≡ holds places.now row.now (uses_of insn.now) }
-{
-    match insn {
-        BlockInsn::Number(_, _) => true,
-        BlockInsn::Copy(_, y) => at_home(row, places, *y),
-        BlockInsn::Binary(_, _, y, z) => at_home(row, places, *y) && at_home(row, places, *z),
-        BlockInsn::Load(_, _, _, y) => at_home(row, places, *y),
-        BlockInsn::Store(_, y, z) => at_home(row, places, *y) && at_home(row, places, *z),
-        BlockInsn::ProcAddress(_, _) => true,
-        BlockInsn::ImageAddress(_, _) => true,
-        BlockInsn::Call(_, _, ys) => all_at_home(row, places, ys.as_slice()),
-        BlockInsn::CallAt(_, y, ys) => {
-            at_home(row, places, *y) && all_at_home(row, places, ys.as_slice())
-        }
-        BlockInsn::Take(_) => true,
-        BlockInsn::Give(y) => at_home(row, places, *y),
-    }
-}
-
-#[tactic(auto, unfolding(crate::specs::Rows::holds))]
-fn end_held(row: &[u32], places: &[usize], end: &BlockEnd) -> bool
-    requires named { AllBelow (length places.now) (end_uses end.now) }
-    requires places { Places (length places.now) (length row.now) places.now }
-    ensures { result ≡ holds places.now row.now (end_uses end.now) }
-{
-    match end {
-        BlockEnd::Jump(_) => true,
-        BlockEnd::Branch(y, _, _) => at_home(row, places, *y),
-        BlockEnd::Return(ys) => all_at_home(row, places, ys.as_slice()),
-        BlockEnd::Stop(y) => at_home(row, places, *y),
-        BlockEnd::Limit(_) => true,
-    }
-}
-
-// The first instruction of the block with a use that the row loses.
-fn first_fail(
-    row: &mut Vec<u32>,
-    places: &[usize],
-    insns: &[BlockInsn],
-    end: &BlockEnd,
-) -> Option<usize>
-    requires named { All (InsnBelow (length places.now)) insns.now }
-    requires ends { AllBelow (length places.now) (end_uses end.now) }
-    requires places { Places (length places.now) (length row.old.items) places.now }
-    ensures { MatchOption result ((i : ℕ) → HoldsFrom places.now row.old.items insns.now end.now i) (λ i. FirstFail places.now row.old.items insns.now end.now i) }
-{
-    for (i, insn) in insns.iter().enumerate() {
-        if !uses_held(row.as_slice(), places, insn) {
-            return Some(i);
-        }
-        run_insn(row, insn, places);
-    }
-    if !end_held(row.as_slice(), places, end) {
-        return Some(insns.len());
-    }
-    None
-}
-
-fn check_block(
-    alloc: Global,
-    row: &[u32],
-    places: &[usize],
-    block: &Block,
-) -> Result<Option<usize>, AllocError>
-    requires named { All (InsnBelow (length places.now)) block.now.insns }
-    requires ends { AllBelow (length places.now) (end_uses block.now.end) }
-    requires places { (0 < length row.now) → Places (length places.now) (length row.now) places.now }
-    ensures { IfOk result (λ o. BlockAnswer places.now row.now block.now.insns block.now.end o) }
-{
-    if row.is_empty() {
-        return Ok(None);
-    }
-    let mut copy = Vec::from_slice(alloc, row)?;
-    Ok(first_fail(&mut copy, places, block.insns.as_slice(), &block.end))
-}
-
-// The verdict by the rows.
-fn judge(
-    alloc: Global,
-    p: &BlockProc,
-    places: &[usize],
-    rows: &[List<u32>],
-) -> Result<Verdict, AllocError>
-    requires named { IsNamed p.now }
-    requires places { Places p.now.values (width places.now) places.now }
-    requires rows { InvOf places.now p.now rows.now [] 0 [] }
-    requires size { total p.now.blocks < 2 ^ 32 }
-    ensures { IfOk result (λ v. Judged places.now p.now v) }
-{
-    let mut number: u32 = 0;
-    for (b, block) in p.blocks.as_slice().iter().enumerate() {
-        if let Some(i) = check_block(alloc, rows[b].as_slice(), places, block)? {
-            return Ok(Verdict::No(number + i as u32));
-        }
-        number += block.insns.len() as u32 + 1;
-    }
-    Ok(Verdict::Yes)
-}
 
 // How many instructions there are, with the blocks' ends.
 pub fn count_insns(p: &BlockProc) -> Result<u32, Memory>
@@ -161,6 +35,16 @@ pub fn count_insns(p: &BlockProc) -> Result<u32, Memory>
     Ok(sum)
 }
 
+// No at the first use that is lost, if one is.
+fn verdict_at(first: Option<u32>) -> Verdict
+    ensures { MatchOption first (result ≡ V.Yes) (λ k. result ≡ V.No k) }
+{
+    match first {
+        Some(k) => Verdict::No(k),
+        None => Verdict::Yes,
+    }
+}
+
 fn verdict_of(alloc: Global, p: &BlockProc, places: &[usize]) -> Result<Verdict, AllocError>
     requires some { 0 < length p.now.blocks }
     requires named { IsNamed p.now }
@@ -169,8 +53,21 @@ fn verdict_of(alloc: Global, p: &BlockProc, places: &[usize]) -> Result<Verdict,
     requires width { width places.now < 2 ^ 64 }
     ensures { IfOk result (λ v. Judged places.now p.now v) }
 {
-    let rows = analyse(alloc, p, places)?;
-    judge(alloc, p, places, rows.as_slice())
+    let size = width_of(places);
+    let reached = reached_of(alloc, p)?;
+    let sources = sources_of(alloc, p)?;
+    let start = start_row(alloc, places, p.params, size, p.values)?;
+    let rows = occurrences_by(alloc, p, places, size)?;
+    let facts = Facts {
+        proc: p,
+        places,
+        reached: reached.as_slice(),
+        sources: sources.as_slice(),
+        start: start.as_slice(),
+    };
+    let first = first_of_all(alloc, &facts, rows.as_slice())?;
+    let verdict = verdict_at(first);
+    Ok(verdict)
 }
 
 /// Whether each use finds its value at home, whatever path leads to it, or the number of the first instruction with a use that on some path doesn't.

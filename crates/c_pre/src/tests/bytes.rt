@@ -173,3 +173,36 @@ fn what_is_broken_in_a_header_stands_at_the_include(rt: HostRuntime) -> Result<(
     );
     Ok(())
 }
+
+fn repeated(alloc: Global, byte: u8, count: usize) -> Result<Vec<u8>, AllocError> {
+    let mut text = Vec::new(alloc);
+    for _ in 0..count {
+        text.push(byte)?;
+    }
+    Ok(text)
+}
+
+#[test]
+fn a_file_has_at_most_a_mebibyte(rt: HostRuntime) -> Result<(), Fail> {
+    let most = repeated(rt.alloc(), b' ', 1_048_576)?;
+    assert_eq!(rt; alone(rt.alloc(), &most)?.as_slice(), b"".as_slice());
+    Ok(())
+}
+
+#[test]
+fn the_size_of_a_file_is_looked_at_first(rt: HostRuntime) -> Result<(), Fail> {
+    let alloc = rt.alloc();
+    let more = repeated(alloc, b'$', 1_048_577)?;
+    assert_eq!(rt; alone(alloc, &more)?.as_slice(), b"1:1: 510".as_slice());
+    assert_eq!(rt;
+        shown(
+            alloc,
+            b"\n\n  #include \"h.h\"",
+            &[("h.h", more.as_slice())],
+            0
+        )?
+        .as_slice(),
+        b"3:3: 510".as_slice()
+    );
+    Ok(())
+}

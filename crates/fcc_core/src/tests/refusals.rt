@@ -85,6 +85,42 @@ fn the_first_text_of_another_form_is_told(rt: HostRuntime) -> Result<(), Fail> {
     Ok(())
 }
 
+const OPEN_TEXT: &str = "program one\nprint *, 'a\nend program\n";
+
+const TEXTS: [(&str, &str); 8] = [
+    ("p.f90", FORTRAN),
+    ("q.c", C),
+    ("open.f90", OPEN_TEXT),
+    ("if.c", "int a;\n#if 1\n"),
+    ("function.c", "#define F(x) x\n"),
+    ("absent.c", "#include \"absent.h\"\n#if 1\n"),
+    ("deep.c", "#if 1\n#include \"broken.h\"\n#endif\n"),
+    ("broken.h", "#error\n"),
+];
+
+// The words, the status, and the first file that isn't given or the first broken rule, in the order in which the texts are read.
+const BROKEN: [(&str, u8, &str); 10] = [
+    ("run open.f90 q.c", 202, "open.f90:2: L04\n"),
+    ("run p.f90 if.c", 202, "if.c:2: P04\n"),
+    ("run p.f90 function.c", 202, "function.c:1: P06\n"),
+    ("run p.f90 deep.c", 202, "deep.c:2: P08\n"),
+    ("run p.f90 absent.c", 201, "library absent.h\n"),
+    ("run open.f90 absent.c", 202, "open.f90:2: L04\n"),
+    ("run p.f90 if.c open.f90", 202, "if.c:2: P04\n"),
+    ("run if.c", 202, "if.c:2: P04\n"),
+    ("run open.f90 y.c", 202, "open.f90:2: L04\n"),
+    ("run q.c p.f90", 202, "q.c:1: X01\n"),
+];
+
+#[test]
+fn the_first_broken_rule_is_told(rt: HostRuntime) -> Result<(), Fail> {
+    for (line, status, told) in BROKEN {
+        let run = ran(rt.alloc(), line, &TEXTS, NOTHING_FAILS)?;
+        check(&rt, &run, line, status, b"", told, false);
+    }
+    Ok(())
+}
+
 // A refusal whose line the error stream doesn't take.
 #[test]
 fn a_refusal_that_cannot_be_told(rt: HostRuntime) -> Result<(), Fail> {

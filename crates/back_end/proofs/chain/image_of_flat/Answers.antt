@@ -18,14 +18,14 @@ assign_all-requires-clause-set_first c =
     let P : List BlockProc → Type 0 = λ qs. All UsesAreSet qs in
     subst P (sym c.as_slice.ensures) (all_set c.in_ok-q.q.procs c.in_ok-q.ensures.set_first)
 
-pub image_of_blocks-requires-clause-holds : goal.image_of_blocks-requires-clause-holds
-image_of_blocks-requires-clause-holds c = blocks_hold_at c.args.p.now c.in_ok-q.q c.in_ok-q.ensures.code c.requires.ok c.in_ok-q.ensures.named c.in_ok-q.ensures.set_first
+pub read_image-requires-clause-holds : goal.read_image-requires-clause-holds
+read_image-requires-clause-holds c = blocks_hold_at c.args.p.now c.in_ok-q.q c.in_ok-q.ensures.code c.requires.ok c.in_ok-q.ensures.named c.in_ok-q.ensures.set_first
 
-pub image_of_blocks-requires-clause-assigned : goal.image_of_blocks-requires-clause-assigned
-image_of_blocks-requires-clause-assigned c =
+pub read_image-requires-clause-assigned : goal.read_image-requires-clause-assigned
+read_image-requires-clause-assigned c =
     all_assigned_at c.in_ok-q.q.procs c.as_slice.result.now c.in_ok-assignments.assignments.items c.as_slice-2.result.now c.as_slice.ensures c.as_slice-2.ensures.value c.in_ok-assignments.ensures.assigned
 
 pub returns : goal.returns
 returns c =
     let assigned = all_assigned_at c.in_ok-q.q.procs c.as_slice.result.now c.in_ok-assignments.assignments.items c.as_slice-2.result.now c.as_slice.ensures c.as_slice-2.ensures.value c.in_ok-assignments.ensures.assigned in
-    chained c.images_follow_flat_programs.ensures c.args.p.now c.in_ok-q.q c.as_slice-2.result.now c.image_of_blocks.result c.in_ok-q.ensures.code c.requires.ok c.requires.room assigned c.image_of_blocks.ensures.units c.image_of_blocks.ensures.held
+    chained c.images_follow_flat_programs.ensures c.args.p.now c.in_ok-q.q c.as_slice-2.result.now c.read_image.result c.in_ok-q.ensures.code c.requires.ok c.requires.room assigned c.read_image.ensures.units c.read_image.ensures.held c.read_image.ensures.bytes

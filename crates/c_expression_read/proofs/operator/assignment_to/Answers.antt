@@ -1,4 +1,4 @@
-use Rattle.std.proofs.Common.{◌≡◌, sym, ◌∙◌}
+use Rattle.std.proofs.Common.{sym, ◌∙◌}
 use Rattle.c_expression_read.specs.Views.{view}
 use Rattle.c_expression_read.proofs.Heights.{assign_found, assign_other, assign_none}
 use Rattle.c_expression_read.proofs.operator.assignment_to.Goals as goal

@@ -1,4 +1,4 @@
-use Rattle.std.proofs.Common.{◌≡◌, sym, ◌∙◌}
+use Rattle.std.proofs.Common.{sym, ◌∙◌}
 use Rattle.c_expression_read.proofs.Heights.{binary_found_by, binary_other_by, binary_none}
 use Rattle.c_expression_read.proofs.operator.binary_of_height.Goals as goal
 

@@ -1,4 +1,4 @@
-use Rattle.std.proofs.Common.{◌≡◌, List, [], ◌∷◌, ◌++◌, sym, ap, subst, ◌∙◌}
+use Rattle.std.proofs.Common.{List, sym, ap, ◌∙◌}
 use Rattle.c_grammar.specs.Reading.{run_at}
 use Rattle.c_expression_read.proofs.Runs.{before, before-last, before-none, marks_next, marks_none}
 use Rattle.c_expression_read.proofs.run.run.Goals as goal

@@ -1,4 +1,4 @@
-use Rattle.std.proofs.Common.{◌≡◌, ◌++◌, length}
+use Rattle.std.proofs.Common.{◌≡◌, length}
 use Rattle.c_grammar.specs.Reading.{run_at}
 use Rattle.c_expression_read.proofs.Runs.{before}
 use Rattle.c_expression_read.proofs.run.run.Given as goal

@@ -1,4 +1,4 @@
-use Rattle.std.proofs.Common.{◌≡◌, List, [], ◌∷◌, ◌++◌, sym, ap, subst, ◌∙◌}
+use Rattle.std.proofs.Common.{List, sym, ap, ◌∙◌}
 use Rattle.c_grammar.specs.Reading.{texts_at}
 use Rattle.c_expression_read.proofs.Runs.{before, before-last, before-none, texts_next, texts_none}
 use Rattle.c_expression_read.proofs.run.texts.Goals as goal

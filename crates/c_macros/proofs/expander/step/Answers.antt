@@ -4,8 +4,8 @@ use Rattle.c_macros.proofs.expander.step.Goals as goal
 
 pub returns-in_ok-push-in-Some : goal.returns-in_ok-push-in-Some
 returns-in_ok-push-in-Some c =
-    λ bodies. opened bodies c.args.limit c.in-Some.name c.args.token c.args.place c.args.on.now c.set.new.flags c.args.stack.now.items c.push.new.self.items c.args.out.now.items
-    c.in-Some.ensures.some.0 c.in-Some.ensures.some.1 c.set.ensures c.in_ok-push-in-Some.ensures.items
+    λ bodies. opened bodies c.args.limit c.in-Some.name c.args.token c.args.place c.args.on.now c.shut.new.on c.args.stack.now.items c.push.new.self.items c.args.out.now.items
+    c.in-Some.ensures.some.0 c.in-Some.ensures.some.1 c.shut.ensures c.in_ok-push-in-Some.ensures.items
 
 pub returns-in_ok-push-in-None : goal.returns-in_ok-push-in-None
 returns-in_ok-push-in-None c =

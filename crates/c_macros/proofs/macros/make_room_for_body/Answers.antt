@@ -2,7 +2,7 @@ use Rattle.std.proofs.Common.{◌≡◌, ◌≤◌, ◌<◌, length, arith, ap, 
 use Rattle.std.proofs.lemmas.List.{map-append, length-map}
 use Rattle.c_macros.specs.Stack.{texts}
 use Rattle.c_macros.specs.Keeping.{put}
-use Rattle.c_macros.proofs.Puts.{put_longer, put_set, map_set, one_empty}
+use Rattle.c_macros.proofs.Puts.{put_longer, put_set, one_empty}
 use Rattle.c_macros.proofs.macros.make_room_for_body.Goals as goal
 
 pub loop-alloc-preserved : goal.loop-alloc-preserved

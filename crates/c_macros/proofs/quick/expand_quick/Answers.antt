@@ -20,8 +20,8 @@ returns-in-Plain-clause-tokens c =
 
 pub loop-level-init : goal.loop-level-init
 loop-level-init c = (
-  first_open (texts c.args.bodies.now) c.args.limit c.args.token c.args.place c.args.on.now c.args.void.now c.args.out.now.items c.requires.room c.requires.void c.in-Open.name c.set.new.flags (reverse c.push-in-Open.new.self.items)
-      c.in-Open.ensures c.set.ensures (level_popped c.push-in-Open.new.self.items [] (opened c.in-Open.name) (c.in_ok-push-in-Open.ensures.items ∙ ap (λ l. l ++ opened c.in-Open.name ∷ []) c.new-stack.ensures.items)),
+  first_open (texts c.args.bodies.now) c.args.limit c.args.token c.args.place c.args.on.now c.args.void.now c.args.out.now.items c.requires.room c.requires.void c.in-Open.name c.shut.new.on (reverse c.push-in-Open.new.self.items)
+      c.in-Open.ensures c.shut.ensures (level_popped c.push-in-Open.new.self.items [] (opened c.in-Open.name) (c.in_ok-push-in-Open.ensures.items ∙ ap (λ l. l ++ opened c.in-Open.name ∷ []) c.new-stack.ensures.items)),
   c.requires.tracked,
 )
 

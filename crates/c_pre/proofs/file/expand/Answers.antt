@@ -6,8 +6,8 @@ use Rattle.c_directives.specs.Texts.{Work}
 use Rattle.c_directives.specs.Conditions.{most_tokens}
 use Rattle.c_directives.specs.Sorting.{state_of}
 use Rattle.c_pre.specs.declared.file.PreFault.{PreFault}
-use Rattle.c_pre.specs.Files.{FaultCounts, FaultStrays, Told, expanded_at}
-use Rattle.c_pre.proofs.Acting.{told_counts, told_strays, all_given, all_fails}
+use Rattle.c_pre.specs.Files.{FaultCounts, FaultStrays, IsOfRule, Told, expanded_at}
+use Rattle.c_pre.proofs.Acting.{told_counts, told_strays, told_rule, all_given, all_fails}
 use Rattle.c_pre.proofs.file.expand.Goals as goal
 
 pub returns-in-Err-clause-cause : goal.returns-in-Err-clause-cause
@@ -39,3 +39,8 @@ returns-in-Ok-clause-gives g c = λ fs fe.
       a.0,
       λ k. all_given fs c.args.file c.args.before c.args.bytes.now w (most_tokens - c.args.before) (ap (λ m. we m c.new-2.result.items) c.new.ensures ∙ ap (we _) c.new-2.ensures.items) refl k (a.0 + k) (state_of k c.read.new.pre) c.read.new.pre.out refl (a.1 k),
     )
+
+pub returns-in-Err-clause-rule : goal.returns-in-Err-clause-rule
+returns-in-Err-clause-rule g c =
+    let P : PreFault → Type 0 = λ f. IsOfRule (Err f) in
+    subst P (sym c.fault_of.ensures) (told_rule c.in-Err.stop)

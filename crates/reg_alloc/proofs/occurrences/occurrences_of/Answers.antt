@@ -1,58 +1,22 @@
-use Rattle.std.proofs.Common.{◌≡◌, ◌∙◌, ◌+◌, ◌++◌, ℕ, List, sym, ap, subst, arith, length, drop}
-use Rattle.std.specs.Prelude.{All}
-use Rattle.flatten.specs.Named.{AllBelow}
-use Rattle.flatten.specs.Paths.{end_uses}
-use Rattle.block_homes.specs.Valid.{InsnBelow, BlockBelow}
-use Rattle.reg_alloc.specs.declared.occurrences.Occurrence.{Occurrence}
-use Rattle.flatten.specs.declared.blocks.Block.{Block}
-use Rattle.flatten.specs.declared.blocks.BlockInsn.{BlockInsn}
-use Rattle.reg_alloc.specs.Occurs.{row, add_insns, in_insns, in_blocks}
-use Rattle.reg_alloc.proofs.Collecting.{next_start, row_insns, collected_more, blocks_le_total}
+use Rattle.std.proofs.Common.{◌≡◌, ◌∙◌, ℕ, ◌<◌, List, sym, ap, subst, length, arith}
+use Rattle.std.specs.Prelude.{slice_index}
+use Rattle.reg_alloc.specs.Rows.{Places}
+use Rattle.reg_alloc.proofs.Occurring.{own_blocks}
 use Rattle.reg_alloc.proofs.occurrences.occurrences_of.Goals as goal
 
-pub overflow_cast-b : goal.overflow_cast-b
-overflow_cast-b c =
-    let h = next_start c.args.p.now.blocks c.as_slice-block-items.result.now c.loop-b.b c.loop-b.start c.block-item.result c.as_slice-block-items.ensures c.block-item.is c.loop-b-test.true c.loop-b.invariant.so_far in
-    let n = blocks_le_total c.args.p.now.blocks in
-    omega (arith, h.2, n, c.requires.size)
+pub occurrences_by-requires-clause-keys : goal.occurrences_by-requires-clause-keys
+occurrences_by-requires-clause-keys c =
+    let e = c.as_slice.ensures.value in
+    let keys = c.in_ok-own.own.items in
+    let ok : Places c.args.p.now.values c.args.p.now.values keys = record { count = c.in_ok-own.ensures.len; each = λ v lt. (let q = c.in_ok-own.ensures.each v lt in omega (arith, q, lt)) } in
+    subst (λ (l : List ℕ). Places c.args.p.now.values c.args.p.now.values l) (sym e) ok
 
-pub add_block-requires-clause-size : goal.add_block-requires-clause-size
-add_block-requires-clause-size c =
-    let h = next_start c.args.p.now.blocks c.as_slice-block-items.result.now c.loop-b.b c.loop-b.start c.block-item.result c.as_slice-block-items.ensures c.block-item.is c.loop-b-test.true c.loop-b.invariant.so_far in
-    let n = ap (λ (l : List BlockInsn). length l) c.as_slice.ensures in
-    omega (arith, h.1, n, c.requires.size)
-
-pub overflow_cast-start : goal.overflow_cast-start
-overflow_cast-start c =
-    let h = next_start c.args.p.now.blocks c.as_slice-block-items.result.now c.loop-b.b c.loop-b.start c.block-item.result c.as_slice-block-items.ensures c.block-item.is c.loop-b-test.true c.loop-b.invariant.so_far in
-    omega (arith, h.1, c.len.ensures, c.requires.size)
-
-pub overflow_add-start : goal.overflow_add-start
-overflow_add-start c =
-    let h = next_start c.args.p.now.blocks c.as_slice-block-items.result.now c.loop-b.b c.loop-b.start c.block-item.result c.as_slice-block-items.ensures c.block-item.is c.loop-b-test.true c.loop-b.invariant.so_far in
-    omega (arith, h.1, c.len.ensures, c.requires.size)
-
-pub overflow_add-start-in-loop-b : goal.overflow_add-start-in-loop-b
-overflow_add-start-in-loop-b c =
-    let h = next_start c.args.p.now.blocks c.as_slice-block-items.result.now c.loop-b.b c.loop-b.start c.block-item.result c.as_slice-block-items.ensures c.block-item.is c.loop-b-test.true c.loop-b.invariant.so_far in
-    omega (arith, h.1, c.len.ensures, c.requires.size)
-
-pub loop-b-preserved : goal.loop-b-preserved
-loop-b-preserved c =
-    let bs = c.args.p.now.blocks in
-    let b = c.loop-b.b in
-    let k = c.loop-b.start in
-    let block = c.block-item.result in
-    let h = next_start bs c.as_slice-block-items.result.now b k block c.as_slice-block-items.ensures c.block-item.is c.loop-b-test.true c.loop-b.invariant.so_far in
-    let count = c.loop-b.invariant.count in
-    let w = c.requires.named.blocks b block h.2 in
-    let below = subst (λ (x : Block). BlockBelow c.args.p.now.values (length bs) x) (sym h.3) w in
-    let rows = c.loop-b.rows.items in
-    let e : c.add_block.new.rows.items ≡ add_insns b k block.insns block.end rows = c.in_ok-add_block.ensures.rows ∙ ap (λ (l : List BlockInsn). add_insns b k l block.end rows) c.as_slice.ensures in
-    let step : (v : ℕ) → row c.add_block.new.rows.items v ≡ row rows v ++ in_insns v b k block.insns block.end = λ v. ap (λ (r : List (List Occurrence)). row r v) e ∙ row_insns b k v block.insns block.end rows (subst (λ n. All (InsnBelow n) block.insns) (sym count) below.0) (subst (λ n. AllBelow n (end_uses block.end)) (sym count) below.1) in
-    let n : k + (c.len.result + 1) ≡ k + (length block.insns + 1) = omega (arith, c.len.ensures) in
+pub returns : goal.returns
+returns c =
+    let n = c.args.p.now.values in
+    let keys = c.as_slice.result.now in
+    let own : (w : ℕ) → w < n → slice_index keys w ≡ w = λ w lt. ap (λ (l : List ℕ). slice_index l w) c.as_slice.ensures.value ∙ c.in_ok-own.ensures.each w lt in
     record {
-      so_far = omega (arith, h.0, c.len.ensures);
-      count = c.in_ok-add_block.ensures.len ∙ count;
-      each = λ v. ap (λ m. row c.add_block.new.rows.items v ++ in_blocks v (b + 1) m (drop (b + 1) bs)) n ∙ collected_more v b k bs block (row rows v) (row c.add_block.new.rows.items v) (in_blocks v 0 0 bs) h.3 h.2 (step v) (c.loop-b.invariant.each v);
+      count = c.in_ok-rows.ensures.counted;
+      each = λ v lt. c.in_ok-rows.ensures.each v lt ∙ own_blocks keys n v own (length c.args.p.now.blocks) 0 0 c.args.p.now.blocks c.requires.named.blocks;
     }

@@ -41,8 +41,8 @@ loop-b-preserved c =
     let w = c.requires.named.blocks b block h.2 in
     let below = subst (λ (x : Block). BlockBelow c.args.p.now.values (length bs) x) (sym h.3) w in
     let rows = c.loop-b.rows.items in
-    let e : c.add_targets.new.rows.items ≡ add_all (occurrence b (k + length block.insns) false) (goes_to block.end) rows = c.in_ok-add_targets.ensures.rows ∙ ap (λ n. add_all (occurrence b (k + n) false) (goes_to block.end) rows) c.len-in-loop-b.ensures in
-    let step : (t : ℕ) → row c.add_targets.new.rows.items t ≡ row rows t ++ named (occurrence b (k + length block.insns) false) t (goes_to block.end) = λ t. ap (λ (r : List (List Occurrence)). row r t) e ∙ row_add_all (occurrence b (k + length block.insns) false) (goes_to block.end) t rows (subst (λ n. AllBelow n (goes_to block.end)) (sym count) below.2) in
+    let e : c.add_targets.new.rows.items ≡ add_all b (k + length block.insns) (goes_to block.end) rows = c.in_ok-add_targets.ensures.rows ∙ ap (λ n. add_all b (k + n) (goes_to block.end) rows) c.len-in-loop-b.ensures in
+    let step : (t : ℕ) → row c.add_targets.new.rows.items t ≡ row rows t ++ named (occurrence b (k + length block.insns) false t) t (goes_to block.end) = λ t. ap (λ (r : List (List Occurrence)). row r t) e ∙ row_add_all b (k + length block.insns) (goes_to block.end) t rows (subst (λ n. AllBelow n (goes_to block.end)) (sym count) below.2) in
     let n : k + c.len-in-loop-b.result + 1 ≡ k + (length block.insns + 1) = omega (arith, c.len-in-loop-b.ensures) in
     record {
       so_far = omega (arith, h.0, c.len-in-loop-b.ensures);

@@ -1,10 +1,9 @@
 use Rattle.std.proofs.Common.{◌≡◌, ◌++◌, refl, ap, sym, ◌∙◌, [], List, Bool, true, false, length, get_or, subst, take, drop, arith, get_or-set_other}
 use Rattle.std.proofs.Math.ListN.{set}
-use Rattle.c_macros.specs.declared.token.Token.{Token}
 use Rattle.c_macros.specs.Stack.{texts}
-use Rattle.c_macros.specs.Keeping.{put, defined, State}
+use Rattle.c_macros.specs.Keeping.{defined, State}
 use Rattle.c_macros.specs.Remembering.{Remembers}
-use Rattle.c_macros.proofs.Puts.{map_set, put_length}
+use Rattle.c_macros.proofs.Puts.{map_set}
 use Rattle.c_macros.proofs.Kept.{still_keeps, written_back, put_elsewhere}
 use Rattle.c_macros.proofs.macros.MacroTable.define.Goals as goal
 

@@ -1,0 +1,3 @@
+pub mod FirstPiece
+pub mod CutPieces
+pub mod Deepening

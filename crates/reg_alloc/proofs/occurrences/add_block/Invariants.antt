@@ -1,9 +1,0 @@
-use Rattle.std.proofs.Common.{◌≡◌, ◌+◌, length, drop}
-use Rattle.reg_alloc.specs.Occurs.{add_insns}
-use Rattle.reg_alloc.proofs.occurrences.add_block.Given as goal
-
-abbrev pub invariant-loop-i : goal.invariant-loop-i
-invariant-loop-i l = record {
-  len : length l.rows.items ≡ length l.initial.rows.items;
-  rows : add_insns l.block (l.start + l.i) (drop l.i l.insns) l.fn.end l.rows.items ≡ add_insns l.block l.start l.insns l.fn.end l.initial.rows.items;
-}

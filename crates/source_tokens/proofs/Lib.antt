@@ -1,0 +1,4 @@
+pub mod Counting
+pub mod One
+pub mod Many
+pub mod OneList

@@ -1,0 +1,152 @@
+//! One file.
+ghost use Rattle.std.specs.Prelude.{◌≡◌, ◌≤◌};
+ghost use Rattle.source_tokens.specs.Sources.{count, is_fortran_name};
+ghost use Rattle.source_tokens.specs.Reading.{IsNamed, IsText, IsFortran, IsC, IsRead};
+
+use c_pre::{PreFault, expand};
+use c_token::CSpanned;
+use f_lex::{Spanned, lex};
+use jf_base::{List, Place, Refusal, Tag, Text};
+use jf_outside::{Library, LibraryFault};
+use std::alloc::Global;
+
+/// The tokens of a file: those of Fortran's free source form, or those of C behind directives, macro replacement and headers.
+#[derive(Drop, Debug)]
+pub enum SourceTokens {
+    Fortran(List<Spanned>),
+    C(List<CSpanned>),
+}
+
+impl SourceTokens {
+    /// How many tokens there are, where the end of a Fortran statement is one.
+    pub fn count(&self) -> usize
+        ensures { result ≡ count self.now }
+    {
+        match self {
+            SourceTokens::Fortran(tokens) => tokens.len(),
+            SourceTokens::C(tokens) => tokens.len(),
+        }
+    }
+}
+
+/// A file's bytes and its tokens.
+#[derive(Drop, Debug)]
+pub struct SourceFile {
+    pub text: List<u8>,
+    pub tokens: SourceTokens,
+}
+
+/// Why there are no tokens: memory was wanting, the library failed to give the file of this name, or a file breaks the rule of this tag there.
+#[derive(Drop, Debug)]
+pub enum SourceFault {
+    Memory,
+    Library(Text),
+    Source { place: Place, tag: Tag },
+}
+
+// Whether the name is that of a Fortran file.
+fn is_fortran_name(name: &Text) -> bool
+    ensures { result ≡ is_fortran_name name.now }
+{
+    name.as_str().as_bytes().ends_with(b".f90")
+}
+
+// A copy of the name, to tell it.
+fn not_given(name: &Text) -> SourceFault
+    ensures { IsNamed name.now result }
+{
+    match name.clone() {
+        Ok(name) => SourceFault::Library(name),
+        Err(_) => SourceFault::Memory,
+    }
+}
+
+fn read_text<L: Library>(
+    alloc: Global,
+    name: &Text,
+    library: &mut L,
+) -> Result<List<u8>, SourceFault>
+    ensures listing { L.files library.new ≡ L.files library.old }
+    ensures read { IsText name.now result
+        (record { listing = L.files library.old; faults = L.faults library.old; strays = L.strays library.old })
+        (record { listing = L.files library.new; faults = L.faults library.new; strays = L.strays library.new }) }
+{
+    match library.read(alloc, name.as_str()) {
+        Ok(bytes) => Ok(List(bytes)),
+        Err(LibraryFault::Memory) => Err(SourceFault::Memory),
+        Err(LibraryFault::Failed) => Err(not_given(name)),
+    }
+}
+
+// The file of these bytes in Fortran.
+fn fortran_source(
+    alloc: Global,
+    file: u16,
+    before: u32,
+    text: List<u8>,
+) -> Result<SourceFile, SourceFault>
+    requires { before ≤ 262144 }
+    ensures { IsFortran file before text result }
+{
+    match lex(alloc, file, before, text.as_slice()) {
+        Ok(tokens) => Ok(SourceFile {
+            text,
+            tokens: SourceTokens::Fortran(List(tokens)),
+        }),
+        Err(Refusal::Memory) => Err(SourceFault::Memory),
+        Err(Refusal::At { place, tag }) => Err(SourceFault::Source { place, tag }),
+    }
+}
+
+// The file of these bytes in C, with its headers.
+fn c_source<L: Library>(
+    alloc: Global,
+    file: u16,
+    before: u32,
+    name: &Text,
+    text: List<u8>,
+    library: &mut L,
+) -> Result<SourceFile, SourceFault>
+    requires { before ≤ 262144 }
+    ensures listing { L.files library.new ≡ L.files library.old }
+    ensures read { IsC file before text result
+        (record { listing = L.files library.old; faults = L.faults library.old; strays = L.strays library.old })
+        (record { listing = L.files library.new; faults = L.faults library.new; strays = L.strays library.new }) }
+{
+    match expand(alloc, file, before, name.as_str(), text.as_slice(), library) {
+        Ok(tokens) => Ok(SourceFile {
+            text,
+            tokens: SourceTokens::C(List(tokens)),
+        }),
+        Err(PreFault::Memory) => Err(SourceFault::Memory),
+        Err(PreFault::Library { name }) => Err(SourceFault::Library(name)),
+        Err(PreFault::At { place, tag }) => Err(SourceFault::Source { place, tag }),
+    }
+}
+
+/// Reads the file of this name, which is Fortran's where its name ends in `.f90`, and else C's. `file` is its number, and `before` how many tokens the
+/// files before have.
+pub fn read_source<L: Library>(
+    alloc: Global,
+    file: u16,
+    before: u32,
+    name: &Text,
+    library: &mut L,
+) -> Result<SourceFile, SourceFault>
+    requires { before ≤ 262144 }
+    ensures listing { L.files library.new ≡ L.files library.old }
+    ensures read { IsRead name.now file before result
+        (record { listing = L.files library.old; faults = L.faults library.old; strays = L.strays library.old })
+        (record { listing = L.files library.new; faults = L.faults library.new; strays = L.strays library.new }) }
+{
+    match read_text(alloc, name, library) {
+        Err(fault) => Err(fault),
+        Ok(text) => {
+            if is_fortran_name(name) {
+                fortran_source(alloc, file, before, text)
+            } else {
+                c_source(alloc, file, before, name, text, library)
+            }
+        }
+    }
+}

@@ -1,0 +1,185 @@
+use crate::{SourceFault, SourceTokens, read_sources};
+use jf_base::Text;
+use jf_outside::MemoryLibrary;
+use std::alloc::{AllocError, Global};
+use std::test::Fail;
+
+// A library of these files, of which these calls fail.
+fn library(
+    alloc: Global,
+    files: &[(&str, &[u8])],
+    failing: &[u64],
+) -> Result<MemoryLibrary, AllocError> {
+    let mut list = Vec::new(alloc);
+    for (name, bytes) in files {
+        list.push((String::from_str(alloc, name)?, bytes.to_vec(alloc)?))?;
+    }
+    Ok(MemoryLibrary::new(list, failing.to_vec(alloc)?))
+}
+
+fn put_count(alloc: Global, out: &mut Vec<u8>, tokens: &SourceTokens) -> Result<(), AllocError> {
+    let kind = match tokens {
+        SourceTokens::Fortran(_) => "F",
+        SourceTokens::C(_) => "C",
+    };
+    let number = tokens.count();
+    let text = format!(in alloc; "{kind}{number} ")?;
+    out.extend_from_slice(text.as_str().as_bytes())
+}
+
+fn put_fault(alloc: Global, out: &mut Vec<u8>, fault: &SourceFault) -> Result<(), AllocError> {
+    match fault {
+        SourceFault::Memory => out.extend_from_slice(b"memory"),
+        SourceFault::Library(name) => {
+            out.extend_from_slice(b"library ")?;
+            out.extend_from_slice(name.as_str().as_bytes())
+        }
+        SourceFault::Source { place, tag } => {
+            let (file, line, column, number) = (place.file, place.line, place.column, tag.0);
+            let text = format!(in alloc; "{file}:{line}:{column}: {number}")?;
+            out.extend_from_slice(text.as_str().as_bytes())
+        }
+    }
+}
+
+// The language and the number of tokens of each file, or the fault.
+fn shown(
+    alloc: Global,
+    names: &[&str],
+    files: &[(&str, &[u8])],
+    failing: &[u64],
+) -> Result<Vec<u8>, AllocError> {
+    let mut library = library(alloc, files, failing)?;
+    let mut texts = Vec::new(alloc);
+    for name in names {
+        texts.push(Text::from_text(alloc, name)?)?;
+    }
+    let mut out = Vec::new(alloc);
+    if texts.len() > 64 {
+        return Ok(out);
+    }
+    match read_sources(alloc, texts.as_slice(), &mut library) {
+        Ok(sources) => {
+            for source in sources.as_slice() {
+                put_count(alloc, &mut out, &source.tokens)?;
+            }
+        }
+        Err(fault) => put_fault(alloc, &mut out, &fault)?,
+    }
+    Ok(out)
+}
+
+const PROGRAM: &[u8] = b"program p\nimplicit none\nend program\n";
+
+#[test]
+fn each_file_has_its_tokens(rt: HostRuntime) -> Result<(), Fail> {
+    let alloc = rt.alloc();
+    let files = [
+        ("p.f90", PROGRAM),
+        (
+            "q.c",
+            b"#include \"h.h\"\nint f(void){return A;}\n".as_slice(),
+        ),
+        ("h.h", b"#define A 1 + 2\nint g(void);\n".as_slice()),
+        ("r.f90", b"".as_slice()),
+    ];
+    assert_eq!(rt;
+        shown(alloc, &["p.f90", "q.c", "r.f90"], &files, &[])?.as_slice(),
+        b"F9 C18 F0 ".as_slice()
+    );
+    assert_eq!(rt;
+        shown(alloc, &["q.c"], &files, &[])?.as_slice(),
+        b"C18 ".as_slice()
+    );
+    assert_eq!(rt; shown(alloc, &[], &files, &[])?.as_slice(), b"".as_slice());
+    Ok(())
+}
+
+#[test]
+fn the_first_broken_rule_in_the_order_of_the_files(rt: HostRuntime) -> Result<(), Fail> {
+    let alloc = rt.alloc();
+    let files = [
+        ("p.f90", PROGRAM),
+        ("s.f90", b"program p\nprint *, 'a\nend program\n".as_slice()),
+        ("q.c", b"int a;\n#if 1\n".as_slice()),
+        ("i.c", b"int a;\n#include \"b.h\"\n".as_slice()),
+        ("b.h", b"#define F(x) x\n".as_slice()),
+    ];
+    assert_eq!(rt;
+        shown(alloc, &["p.f90", "s.f90"], &files, &[])?.as_slice(),
+        b"1:2:10: 104".as_slice()
+    );
+    assert_eq!(rt;
+        shown(alloc, &["p.f90", "q.c", "s.f90"], &files, &[])?.as_slice(),
+        b"1:2:1: 504".as_slice()
+    );
+    assert_eq!(rt;
+        shown(alloc, &["s.f90", "q.c"], &files, &[])?.as_slice(),
+        b"0:2:10: 104".as_slice()
+    );
+    assert_eq!(rt;
+        shown(alloc, &["p.f90", "i.c"], &files, &[])?.as_slice(),
+        b"1:2:1: 506".as_slice()
+    );
+    Ok(())
+}
+
+#[test]
+fn a_file_that_is_not_given_is_named(rt: HostRuntime) -> Result<(), Fail> {
+    let alloc = rt.alloc();
+    let files = [
+        ("p.f90", PROGRAM),
+        ("s.f90", b"####\n".as_slice()),
+        ("q.c", b"#include \"a.h\"\n#include \"b.h\"\n".as_slice()),
+        ("a.h", b"int a;\n".as_slice()),
+    ];
+    assert_eq!(rt;
+        shown(alloc, &["p.f90", "x.c"], &files, &[])?.as_slice(),
+        b"library x.c".as_slice()
+    );
+    assert_eq!(rt;
+        shown(alloc, &["p.f90", "q.c", "s.f90"], &files, &[])?.as_slice(),
+        b"library b.h".as_slice()
+    );
+    assert_eq!(rt;
+        shown(alloc, &["s.f90", "q.c"], &files, &[])?.as_slice(),
+        b"0:1:1: 106".as_slice()
+    );
+    assert_eq!(rt;
+        shown(alloc, &["p.f90", "q.c"], &files, &[0])?.as_slice(),
+        b"library p.f90".as_slice()
+    );
+    assert_eq!(rt;
+        shown(alloc, &["p.f90", "q.c"], &files, &[2])?.as_slice(),
+        b"library a.h".as_slice()
+    );
+    Ok(())
+}
+
+#[test]
+fn tokens_are_counted_over_all_files(rt: HostRuntime) -> Result<(), Fail> {
+    let alloc = rt.alloc();
+    let mut long = Vec::new(alloc);
+    for _ in 0..262_143 {
+        long.extend_from_slice(b"a ")?;
+    }
+    let files = [
+        ("a.c", long.as_slice()),
+        ("b.c", b"b".as_slice()),
+        ("c.c", b"b c".as_slice()),
+        ("d.f90", b"d".as_slice()),
+    ];
+    assert_eq!(rt;
+        shown(alloc, &["a.c", "b.c"], &files, &[])?.as_slice(),
+        b"C262143 C1 ".as_slice()
+    );
+    assert_eq!(rt;
+        shown(alloc, &["a.c", "c.c"], &files, &[])?.as_slice(),
+        b"1:1:3: 510".as_slice()
+    );
+    assert_eq!(rt;
+        shown(alloc, &["a.c", "d.f90"], &files, &[])?.as_slice(),
+        b"1:1:2: 107".as_slice()
+    );
+    Ok(())
+}
