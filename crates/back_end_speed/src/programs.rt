@@ -121,7 +121,10 @@ fn deep_loops(alloc: Global, count: u32) -> Result<Vec<FlatStmt>, AllocError> {
     let turns = count / 3;
     for k in 0..turns {
         stmts.push(FlatStmt::Break(turns - 1 - k))?;
-        stmts = vec![in alloc; one_more(alloc, 0, 0)?, FlatStmt::Loop(List::from_vec(stmts))]?;
+        stmts = vec![in alloc;
+            one_more(alloc, 0, 0)?,
+            FlatStmt::Loop(List::from_vec(stmts)),
+        ]?;
     }
     Ok(stmts)
 }

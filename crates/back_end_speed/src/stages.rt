@@ -1,9 +1,10 @@
 //! The stages of the back end, one behind the other.
 
-ghost use Rattle.std.specs.Prelude.{◌≡◌, true, All};
+ghost use Rattle.std.specs.Prelude.{◌≡◌, true, All, IfOk};
 ghost use Rattle.flat_ir.specs.Checked.{is_ok};
 ghost use Rattle.block_homes.specs.Valid.{IsNamed};
-ghost use Rattle.reg_alloc.specs.All.{AreAssigned};
+ghost use Rattle.block_image.specs.Images.{AreAssigned, HoldTogether};
+ghost use Rattle.reg_alloc.specs.All.{AreAssigned as AllAssigned};
 
 use anyhow::bail;
 use block_image::image_of_blocks;
@@ -71,7 +72,10 @@ fn tell_blocks(rt: &HostRuntime, q: &BlockProgram) -> anyhow::Result<()> {
         blocks = blocks.saturating_add(f.blocks.len());
         values = values.saturating_add(f.values as usize);
     }
-    println!(rt; "{} procedures, {blocks} blocks, {values} values", q.procs.len())?;
+    println!(rt;
+        "{} procedures, {blocks} blocks, {values} values",
+        q.procs.len()
+    )?;
     Ok(())
 }
 
@@ -95,7 +99,7 @@ fn tell_homes(rt: &HostRuntime, assignments: &[Assignment]) -> anyhow::Result<()
 /// How many procedures keep each value.
 fn valid_of(alloc: Global, procs: &[BlockProc], assignments: &[Assignment]) -> anyhow::Result<usize>
     requires named { All IsNamed procs.now }
-    requires assigned { AreAssigned procs.now assignments.now }
+    requires assigned { AllAssigned procs.now assignments.now }
 {
     let mut valid: usize = 0;
     for f in 0..procs.len() {
@@ -122,8 +126,79 @@ fn tell_lines(rt: &HostRuntime, units: &[AsmUnit]) -> anyhow::Result<()> {
 }
 
 fn tell_image(rt: &HostRuntime, image: &Image) -> anyhow::Result<()> {
-    println!(rt; "{} instructions, {} bytes", image.code_len / 4, image.bytes.len())?;
+    println!(rt;
+        "{} instructions, {} bytes",
+        image.code_len / 4,
+        image.bytes.len()
+    )?;
     Ok(())
+}
+
+/// The stages behind the homes.
+fn emit_and_link(
+    rt: &HostRuntime,
+    alloc: Global,
+    q: &BlockProgram,
+    assignments: &[Assignment],
+    last: Stage,
+    clock: &mut Clock,
+) -> anyhow::Result<()>
+    requires holds { HoldTogether q.now }
+    requires assigned { AreAssigned q.now.procs assignments.now }
+{
+    if last == Stage::Lines {
+        let Ok(units) = emit(alloc, q, assignments) else {
+            bail!("there isn't the memory");
+        };
+        lap(rt, clock, "lines")?;
+        return tell_lines(rt, units.as_slice());
+    }
+    let Ok(image) = image_of_blocks(alloc, q, assignments) else {
+        bail!("there isn't the memory");
+    };
+    lap(rt, clock, "image")?;
+    tell_image(rt, &image)
+}
+
+/// The stages behind the blocks.
+fn place(
+    rt: &HostRuntime,
+    alloc: Global,
+    q: &BlockProgram,
+    last: Stage,
+    clock: &mut Clock,
+) -> anyhow::Result<()>
+    requires { HoldTogether q.now }
+{
+    let procs = q.procs.as_slice();
+    let assignments = match assign_all(alloc, procs) {
+        Ok(assignments) => assignments,
+        Err(_) => bail!("there isn't the memory"),
+    };
+    lap(rt, clock, "homes")?;
+    tell_homes(rt, assignments.as_slice())?;
+    if last == Stage::Homes {
+        return Ok(());
+    }
+    let valid = valid_of(alloc, procs, assignments.as_slice())?;
+    lap(rt, clock, "verdicts")?;
+    println!(rt; "{valid} valid")?;
+    if last == Stage::Verdicts {
+        return Ok(());
+    }
+    emit_and_link(rt, alloc, q, assignments.as_slice(), last, clock)
+}
+
+/// The blocks of a program that holds together.
+fn blocks_of(alloc: Global, p: &FlatProgram) -> anyhow::Result<BlockProgram>
+    requires { is_ok p.now ≡ true }
+    ensures { IfOk result (λ q. HoldTogether q) }
+{
+    let q = match flatten(alloc, p) {
+        Ok(q) => q,
+        Err(_) => bail!("there isn't the memory"),
+    };
+    Ok(q)
 }
 
 /// Takes a program up to the last stage.
@@ -142,42 +217,11 @@ pub fn run(
         bail!("the program doesn't hold together");
     }
     lap(rt, &mut clock, "check")?;
-    let q = match flatten(alloc, p) {
-        Ok(q) => q,
-        Err(_) => bail!("there isn't the memory"),
-    };
+    let q = blocks_of(alloc, p)?;
     lap(rt, &mut clock, "blocks")?;
     tell_blocks(rt, &q)?;
     if last == Stage::Blocks {
         return Ok(());
     }
-    let assignments = match assign_all(alloc, q.procs.as_slice()) {
-        Ok(assignments) => assignments,
-        Err(_) => bail!("there isn't the memory"),
-    };
-    lap(rt, &mut clock, "homes")?;
-    tell_homes(rt, assignments.as_slice())?;
-    if last == Stage::Homes {
-        return Ok(());
-    }
-    let valid = valid_of(alloc, q.procs.as_slice(), assignments.as_slice())?;
-    lap(rt, &mut clock, "verdicts")?;
-    println!(rt; "{valid} valid")?;
-    if last == Stage::Verdicts {
-        return Ok(());
-    }
-    if last == Stage::Lines {
-        let units = match emit(alloc, &q, assignments.as_slice()) {
-            Ok(units) => units,
-            Err(_) => bail!("there isn't the memory"),
-        };
-        lap(rt, &mut clock, "lines")?;
-        return tell_lines(rt, units.as_slice());
-    }
-    let image = match image_of_blocks(alloc, &q, assignments.as_slice()) {
-        Ok(image) => image,
-        Err(_) => bail!("there isn't the memory"),
-    };
-    lap(rt, &mut clock, "image")?;
-    tell_image(rt, &image)
+    place(rt, alloc, &q, last, &mut clock)
 }
