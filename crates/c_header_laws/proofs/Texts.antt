@@ -31,7 +31,7 @@ use Rattle.c_directives.specs.declared.origin.Origin.TheVariants.{Included}
 use Rattle.c_headers.specs.declared.header.Header.{Header}
 use Rattle.c_headers.specs.Headers.{text_of}
 use Rattle.c_header_laws.specs.Declared.{Front, declared, Definition, with_all}
-use Rattle.c_header_laws.proofs.Plain.{is_plain, plain_lexemes, lexemes_plain}
+use Rattle.c_header_laws.proofs.Plain.{is_plain, lexemes_at, plain_lexemes, lexemes_plain}
 use Rattle.c_header_laws.specs.Headers.{start, DeclaresItsNames}
 
 -- ---- lexemes as they are written down
@@ -53,7 +53,7 @@ line_end line column = lexeme kind.LineEnd (10 ∷ []) line column false
 
 -- what is opened to read a text
 unfoldable pub closed_texts : ⊤
-unfolding is_next third_of trigraph_at written_at characters joined class_of longest mark_length quote_at prefixed_at literal_at word_at mark_at slash_at dot_at piece_at byte_at digit_is_next word_rest number_rest line_rest comment_rest literal_rest cuts rows head_at is_hash is_paste directive_of first_ill token_of is_number is_character is_string between mark_of bracket_of digraph_of arithmetic_of logic_of assignment_of constant_at radix_at suffix_at long_at unsigned_at digits_at digit_at lines_at line_at act_at turn_at text_at put_lexeme put_name define_at one_name is_macro_name list_rule is_open has_hash tokens_of expansion among along declared spelled_token spelling_of
+unfolding is_next third_of trigraph_at written_at characters joined class_of longest mark_length quote_at prefixed_at literal_at word_at mark_at slash_at dot_at piece_at byte_at digit_is_next word_rest number_rest line_rest comment_rest literal_rest cuts rows head_at is_hash is_paste directive_of first_ill token_of is_number is_character is_string between mark_of bracket_of digraph_of arithmetic_of logic_of assignment_of constant_at radix_at suffix_at long_at unsigned_at digits_at digit_at lines_at line_at act_at turn_at text_at put_lexeme put_name define_at one_name is_macro_name list_rule is_open has_hash tokens_of expansion among along declared spelled_token spelling_of lexemes_at
 closed_texts = tt
 
 -- ---- a text that is short enough is read line by line

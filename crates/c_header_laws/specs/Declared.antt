@@ -65,6 +65,10 @@ word name other = defines name (Id (codes other) ∷ [])
 abbrev pub negative : String → String → Definition
 negative name digits = defines name (Mark mark.Open ∷ Mark mark.Minus ∷ Number (codes digits) ∷ Mark mark.Close ∷ [])
 
+-- (-digits-1)
+abbrev pub least : String → String → Definition
+least name digits = defines name (Mark mark.Open ∷ Mark mark.Minus ∷ Number (codes digits) ∷ Mark mark.Minus ∷ Number (codes "1") ∷ Mark mark.Close ∷ [])
+
 -- ((void*)0)
 abbrev pub null : Definition
 null = defines "NULL" (Mark mark.Open ∷ Mark mark.Open ∷ Id (codes "void") ∷ Mark mark.Star ∷ Mark mark.Close ∷ Number (codes "0") ∷ Mark mark.Close ∷ [])

@@ -2,14 +2,14 @@
 use Rattle.std.specs.Prelude.{◌≡◌, ℕ, List, [], ◌∷◌, ◌++◌, codes, Ok}
 use Rattle.jf_base.specs.declared.place.Place.{Place}
 use Rattle.c_headers.specs.declared.header.Header.{Header}
-use Rattle.c_headers.specs.declared.header.Header.TheVariants.{Stddef, Stdbool, Stdlib, Str, Stdio}
+use Rattle.c_headers.specs.declared.header.Header.TheVariants.{Stddef, Stdint, Stdbool, Limits, Stdlib, Str, Stdio, FortranBinding}
 use Rattle.c_headers.specs.Headers.{text_of}
 use Rattle.c_define.specs.Definitions.{no_macros}
 use Rattle.c_directives.specs.declared.origin.Origin.TheVariants.{Included}
 use Rattle.c_directives.specs.Conditions.{most_tokens}
 use Rattle.c_directives.specs.Replacement.{bare}
 use Rattle.c_directives.specs.Reading.{State, Including, file_at}
-use Rattle.c_header_laws.specs.Declared.{Front, declared, Definition, with_all, nothing, number, word, negative, null}
+use Rattle.c_header_laws.specs.Declared.{Front, declared, Definition, with_all, nothing, number, word, negative, least, null}
 
 -- nothing is read yet
 abbrev pub start : ℕ → State
@@ -41,6 +41,49 @@ string_functions = codes "memcpy" ∷ codes "memset" ∷ codes "strlen" ∷ []
 abbrev pub stdio_functions : List (List ℕ)
 stdio_functions = codes "putchar" ∷ codes "getchar" ∷ codes "puts" ∷ []
 
+-- the types of exact width, of the greatest width and for pointers (7.20.1)
+abbrev pub integer_types : List (List ℕ)
+integer_types = codes "int8_t" ∷ codes "int16_t" ∷ codes "int32_t" ∷ codes "int64_t" ∷ codes "uint8_t" ∷ codes "uint16_t" ∷ codes "uint32_t" ∷ codes "uint64_t"
+    ∷ codes "intmax_t" ∷ codes "uintmax_t" ∷ codes "intptr_t" ∷ codes "uintptr_t" ∷ []
+
+-- their limits (7.20.2)
+abbrev pub limits_of_types : List Definition
+limits_of_types = negative "INT8_MIN" "128" ∷ number "INT8_MAX" "127" ∷ number "UINT8_MAX" "255"
+    ∷ negative "INT16_MIN" "32768" ∷ number "INT16_MAX" "32767" ∷ number "UINT16_MAX" "65535"
+    ∷ least "INT32_MIN" "2147483647" ∷ number "INT32_MAX" "2147483647" ∷ number "UINT32_MAX" "4294967295U"
+    ∷ least "INT64_MIN" "9223372036854775807L" ∷ number "INT64_MAX" "9223372036854775807L" ∷ number "UINT64_MAX" "18446744073709551615UL"
+    ∷ least "INTMAX_MIN" "9223372036854775807L" ∷ number "INTMAX_MAX" "9223372036854775807L" ∷ number "UINTMAX_MAX" "18446744073709551615UL"
+    ∷ least "INTPTR_MIN" "9223372036854775807L" ∷ number "INTPTR_MAX" "9223372036854775807L" ∷ number "UINTPTR_MAX" "18446744073709551615UL" ∷ []
+
+-- the sizes of the integer types (5.2.4.2.1), where plain `char` is unsigned
+abbrev pub limits_of_integers : List Definition
+limits_of_integers = number "CHAR_BIT" "8" ∷ negative "SCHAR_MIN" "128" ∷ number "SCHAR_MAX" "127" ∷ number "UCHAR_MAX" "255" ∷ number "CHAR_MIN" "0" ∷ number "CHAR_MAX" "255" ∷ number "MB_LEN_MAX" "1"
+    ∷ negative "SHRT_MIN" "32768" ∷ number "SHRT_MAX" "32767" ∷ number "USHRT_MAX" "65535"
+    ∷ least "INT_MIN" "2147483647" ∷ number "INT_MAX" "2147483647" ∷ number "UINT_MAX" "4294967295U"
+    ∷ least "LONG_MIN" "9223372036854775807L" ∷ number "LONG_MAX" "9223372036854775807L" ∷ number "ULONG_MAX" "18446744073709551615UL"
+    ∷ least "LLONG_MIN" "9223372036854775807LL" ∷ number "LLONG_MAX" "9223372036854775807LL" ∷ number "ULLONG_MAX" "18446744073709551615ULL" ∷ []
+
+-- the types of the Fortran header (ISO/IEC 1539-1:2018, 18.5.3 and 18.5.4)
+abbrev pub descriptor_types : List (List ℕ)
+descriptor_types = codes "CFI_cdesc_t" ∷ codes "CFI_attribute_t" ∷ codes "CFI_index_t" ∷ codes "CFI_rank_t" ∷ codes "CFI_type_t" ∷ []
+
+-- its functions (18.5.5)
+abbrev pub descriptor_functions : List (List ℕ)
+descriptor_functions = codes "CFI_address" ∷ codes "CFI_allocate" ∷ codes "CFI_deallocate" ∷ codes "CFI_establish" ∷ codes "CFI_is_contiguous" ∷ codes "CFI_section" ∷ codes "CFI_select_part" ∷ codes "CFI_setpointer" ∷ []
+
+-- its macros: the greatest rank and the version, and the codes of attributes, of types and of errors (18.5.4)
+abbrev pub descriptor_codes : List Definition
+descriptor_codes = number "CFI_MAX_RANK" "15" ∷ number "CFI_VERSION" "1" ∷ number "CFI_attribute_other" "0" ∷ number "CFI_attribute_allocatable" "1" ∷ number "CFI_attribute_pointer" "2"
+    ∷ number "CFI_type_signed_char" "1" ∷ number "CFI_type_int8_t" "1" ∷ number "CFI_type_short" "2" ∷ number "CFI_type_int16_t" "2"
+    ∷ number "CFI_type_int" "3" ∷ number "CFI_type_int32_t" "3" ∷ number "CFI_type_long" "4" ∷ number "CFI_type_long_long" "4"
+    ∷ number "CFI_type_int64_t" "4" ∷ number "CFI_type_size_t" "4" ∷ number "CFI_type_intmax_t" "4" ∷ number "CFI_type_intptr_t" "4"
+    ∷ number "CFI_type_ptrdiff_t" "4" ∷ number "CFI_type_Bool" "5" ∷ number "CFI_type_char" "6" ∷ number "CFI_type_cptr" "7"
+    ∷ number "CFI_type_cfunptr" "8" ∷ number "CFI_type_struct" "9" ∷ negative "CFI_type_other" "1"
+    ∷ number "CFI_SUCCESS" "0" ∷ number "CFI_ERROR_BASE_ADDR_NULL" "1" ∷ number "CFI_ERROR_BASE_ADDR_NOT_NULL" "2"
+    ∷ number "CFI_INVALID_ELEM_LEN" "3" ∷ number "CFI_INVALID_RANK" "4" ∷ number "CFI_INVALID_TYPE" "5"
+    ∷ number "CFI_INVALID_ATTRIBUTE" "6" ∷ number "CFI_INVALID_EXTENT" "7" ∷ number "CFI_INVALID_DESCRIPTOR" "8"
+    ∷ number "CFI_ERROR_MEM_ALLOCATION" "9" ∷ number "CFI_ERROR_OUT_OF_BOUNDS" "10" ∷ []
+
 -- each header defines its guard and its macros
 abbrev pub StddefDeclares : Type 0
 StddefDeclares = Declares Stddef sizes (nothing "__stddef_h" ∷ null ∷ [])
@@ -56,3 +99,12 @@ StringDeclares = Declares Str (sizes ++ string_functions) (nothing "__string_h" 
 
 abbrev pub StdioDeclares : Type 0
 StdioDeclares = Declares Stdio (sizes ++ stdio_functions) (nothing "__stdio_h" ∷ null ∷ negative "EOF" "1" ∷ [])
+
+abbrev pub StdintDeclares : Type 0
+StdintDeclares = Declares Stdint integer_types (nothing "__stdint_h" ∷ limits_of_types)
+
+abbrev pub LimitsDeclares : Type 0
+LimitsDeclares = Declares Limits [] (nothing "__limits_h" ∷ limits_of_integers)
+
+abbrev pub FortranBindingDeclares : Type 0
+FortranBindingDeclares = Declares FortranBinding (sizes ++ (descriptor_types ++ descriptor_functions)) (nothing "__ISO_Fortran_binding_h" ∷ null ∷ descriptor_codes)
