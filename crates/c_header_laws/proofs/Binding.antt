@@ -10,7 +10,7 @@ use Rattle.c_header_laws.specs.Declared.{with_all, nothing, null}
 use Rattle.c_header_laws.specs.Headers.{FortranBindingDeclares, sizes, descriptor_types, descriptor_functions, descriptor_codes}
 use Rattle.c_header_laws.proofs.Plain.{lexemes_at, plain_lexemes, is_plain}
 use Rattle.c_header_laws.proofs.Parts.{Part, in_front}
-use Rattle.c_header_laws.proofs.Texts.{word, digits, mark_of_text, line_end, Ends, course_of, macros_behind, read_of, declares_by, closed_texts}
+use Rattle.c_header_laws.proofs.Texts.{word, digits, mark_of_text, line_end, ends_with, course_of, macros_behind, read_of, declares_by, closed_texts}
 
 abbrev pub from_1 : List Lexeme
 from_1 = mark_of_text "#" 1 1 false ∷ word "ifndef" 1 2 false ∷ word "__ISO_Fortran_binding_h" 1 9 true ∷ line_end 1 32
@@ -234,7 +234,7 @@ binding_lexemes = in_front part_1 (in_front part_5 (in_front part_9 (in_front pa
 binding_plain : is_plain (text_of FortranBinding) ≡ true
 binding_plain = refl
 
-binding_course : (including : Including) (place : Place) (calls : ℕ) → course_of (read_of including place calls binding) ≡ Ends true calls (sizes ++ (descriptor_types ++ descriptor_functions))
+binding_course : (including : Including) (place : Place) (calls : ℕ) → course_of (read_of including place calls binding) ≡ ends_with calls (sizes ++ (descriptor_types ++ descriptor_functions))
 unfolding closed_texts
 binding_course including place calls = refl
 

@@ -10,7 +10,7 @@ use Rattle.c_header_laws.specs.Declared.{with_all, nothing}
 use Rattle.c_header_laws.specs.Headers.{LimitsDeclares, limits_of_integers}
 use Rattle.c_header_laws.proofs.Plain.{lexemes_at, plain_lexemes, is_plain}
 use Rattle.c_header_laws.proofs.Parts.{Part, in_front}
-use Rattle.c_header_laws.proofs.Texts.{word, digits, mark_of_text, line_end, Ends, course_of, macros_behind, read_of, declares_by, closed_texts}
+use Rattle.c_header_laws.proofs.Texts.{word, digits, mark_of_text, line_end, ends_with, course_of, macros_behind, read_of, declares_by, closed_texts}
 
 abbrev pub from_1 : List Lexeme
 from_1 = mark_of_text "#" 1 1 false ∷ word "ifndef" 1 2 false ∷ word "__limits_h" 1 9 true ∷ line_end 1 19
@@ -94,7 +94,7 @@ limits_lexemes = in_front part_1 (in_front part_7 (in_front part_12 (in_front pa
 limits_plain : is_plain (text_of Limits) ≡ true
 limits_plain = refl
 
-limits_course : (including : Including) (place : Place) (calls : ℕ) → course_of (read_of including place calls limits) ≡ Ends true calls []
+limits_course : (including : Including) (place : Place) (calls : ℕ) → course_of (read_of including place calls limits) ≡ ends_with calls []
 unfolding closed_texts
 limits_course including place calls = refl
 

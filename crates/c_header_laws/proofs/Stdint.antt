@@ -10,7 +10,7 @@ use Rattle.c_header_laws.specs.Declared.{with_all, nothing}
 use Rattle.c_header_laws.specs.Headers.{StdintDeclares, integer_types, limits_of_types}
 use Rattle.c_header_laws.proofs.Plain.{lexemes_at, plain_lexemes, is_plain}
 use Rattle.c_header_laws.proofs.Parts.{Part, in_front}
-use Rattle.c_header_laws.proofs.Texts.{word, digits, mark_of_text, line_end, Ends, course_of, macros_behind, read_of, declares_by, closed_texts}
+use Rattle.c_header_laws.proofs.Texts.{word, digits, mark_of_text, line_end, ends_with, course_of, macros_behind, read_of, declares_by, closed_texts}
 
 abbrev pub from_1 : List Lexeme
 from_1 = mark_of_text "#" 1 1 false ∷ word "ifndef" 1 2 false ∷ word "__stdint_h" 1 9 true ∷ line_end 1 19
@@ -132,7 +132,7 @@ stdint_lexemes = in_front part_1 (in_front part_6 (in_front part_10 (in_front pa
 stdint_plain : is_plain (text_of Stdint) ≡ true
 stdint_plain = refl
 
-stdint_course : (including : Including) (place : Place) (calls : ℕ) → course_of (read_of including place calls stdint) ≡ Ends true calls integer_types
+stdint_course : (including : Including) (place : Place) (calls : ℕ) → course_of (read_of including place calls stdint) ≡ ends_with calls integer_types
 unfolding closed_texts
 stdint_course including place calls = refl
 

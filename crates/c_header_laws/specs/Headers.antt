@@ -1,5 +1,5 @@
 -- The names that built-in headers declare and define, and that their texts do so (ISO/IEC 9899:2011, 7).
-use Rattle.std.specs.Prelude.{◌≡◌, ℕ, List, [], ◌∷◌, ◌++◌, codes, Ok}
+use Rattle.std.specs.Prelude.{◌≡◌, ℕ, List, [], ◌∷◌, ◌++◌, map, Ok}
 use Rattle.jf_base.specs.declared.place.Place.{Place}
 use Rattle.c_headers.specs.declared.header.Header.{Header}
 use Rattle.c_headers.specs.declared.header.Header.TheVariants.{Stddef, Stdint, Stdbool, Limits, Stdlib, Str, Stdio, FortranBinding}
@@ -9,42 +9,44 @@ use Rattle.c_directives.specs.declared.origin.Origin.TheVariants.{Included}
 use Rattle.c_directives.specs.Conditions.{most_tokens}
 use Rattle.c_directives.specs.Replacement.{bare}
 use Rattle.c_directives.specs.Reading.{State, Including, file_at}
-use Rattle.c_header_laws.specs.Declared.{Front, declared, Definition, with_all, nothing, number, word, negative, least, null}
+use Rattle.c_header_laws.specs.Declared.{Front, declared, Declaration, type_name, function, written_in, Definition, with_all, nothing, number, word, negative, least, null}
 
 -- nothing is read yet
 abbrev pub start : ℕ → State
 start calls = record { work = record { macros = no_macros; out = [] }; calls = calls }
 
--- A header's text, read first, breaks no rule, asks for no file, and declares these names and makes these definitions and nothing else.
-pub record DeclaresItsNames (header : Header) (names : List (List ℕ)) (definitions : List Definition) (including : Including) (place : Place) (calls : ℕ) : Type 0 where
+-- A header's text, read first, breaks no rule, asks for no file, and has these declarations, makes these definitions and nothing else.
+pub record DeclaresItsNames (header : Header) (declarations : List Declaration) (definitions : List Definition) (including : Including) (place : Place) (calls : ℕ) : Type 0 where
   pub read : State
   pub breaks_no_rule : file_at including most_tokens (Included place) (start calls) (text_of header) ≡ Ok read
   pub asks_nothing : read.calls ≡ calls
-  pub declares : declared Front (bare read.work.out) ≡ names
+  pub declares : declared Front (bare read.work.out) ≡ map (λ d. d.name) declarations
+  pub written : written_in [] (bare read.work.out) ≡ map (λ d. d.written) declarations
   pub defines : read.work.macros ≡ with_all no_macros definitions
 
 -- whatever other headers give, and wherever the `#include` stands
-abbrev pub Declares : Header → List (List ℕ) → List Definition → Type 0
-Declares header names definitions = (including : Including) (place : Place) (calls : ℕ) → DeclaresItsNames header names definitions including place calls
+abbrev pub Declares : Header → List Declaration → List Definition → Type 0
+Declares header declarations definitions = (including : Including) (place : Place) (calls : ℕ) → DeclaresItsNames header declarations definitions including place calls
 
 -- the types that several headers declare (7.19)
-abbrev pub sizes : List (List ℕ)
-sizes = codes "size_t" ∷ codes "ptrdiff_t" ∷ []
+abbrev pub sizes : List Declaration
+sizes = type_name "size_t" "unsigned long" ∷ type_name "ptrdiff_t" "long" ∷ []
 
 -- the functions that the library has of each header
-abbrev pub stdlib_functions : List (List ℕ)
-stdlib_functions = codes "malloc" ∷ codes "free" ∷ codes "exit" ∷ codes "abort" ∷ []
+abbrev pub stdlib_functions : List Declaration
+stdlib_functions = function "malloc" "void *" "size_t" ∷ function "free" "void" "void *" ∷ function "exit" "void" "int" ∷ function "abort" "void" "void" ∷ []
 
-abbrev pub string_functions : List (List ℕ)
-string_functions = codes "memcpy" ∷ codes "memset" ∷ codes "strlen" ∷ []
+abbrev pub string_functions : List Declaration
+string_functions = function "memcpy" "void *" "void * restrict , const void * restrict , size_t" ∷ function "memset" "void *" "void * , int , size_t" ∷ function "strlen" "size_t" "const char *" ∷ []
 
-abbrev pub stdio_functions : List (List ℕ)
-stdio_functions = codes "putchar" ∷ codes "getchar" ∷ codes "puts" ∷ []
+abbrev pub stdio_functions : List Declaration
+stdio_functions = function "putchar" "int" "int" ∷ function "getchar" "int" "void" ∷ function "puts" "int" "const char *" ∷ []
 
 -- the types of exact width, of the greatest width and for pointers (7.20.1)
-abbrev pub integer_types : List (List ℕ)
-integer_types = codes "int8_t" ∷ codes "int16_t" ∷ codes "int32_t" ∷ codes "int64_t" ∷ codes "uint8_t" ∷ codes "uint16_t" ∷ codes "uint32_t" ∷ codes "uint64_t"
-    ∷ codes "intmax_t" ∷ codes "uintmax_t" ∷ codes "intptr_t" ∷ codes "uintptr_t" ∷ []
+abbrev pub integer_types : List Declaration
+integer_types = type_name "int8_t" "signed char" ∷ type_name "int16_t" "short" ∷ type_name "int32_t" "int" ∷ type_name "int64_t" "long"
+    ∷ type_name "uint8_t" "unsigned char" ∷ type_name "uint16_t" "unsigned short" ∷ type_name "uint32_t" "unsigned int" ∷ type_name "uint64_t" "unsigned long"
+    ∷ type_name "intmax_t" "long" ∷ type_name "uintmax_t" "unsigned long" ∷ type_name "intptr_t" "long" ∷ type_name "uintptr_t" "unsigned long" ∷ []
 
 -- their limits (7.20.2)
 abbrev pub limits_of_types : List Definition
@@ -64,12 +66,20 @@ limits_of_integers = number "CHAR_BIT" "8" ∷ negative "SCHAR_MIN" "128" ∷ nu
     ∷ least "LLONG_MIN" "9223372036854775807LL" ∷ number "LLONG_MAX" "9223372036854775807LL" ∷ number "ULLONG_MAX" "18446744073709551615ULL" ∷ []
 
 -- the types of the Fortran header (ISO/IEC 1539-1:2018, 18.5.3 and 18.5.4)
-abbrev pub descriptor_types : List (List ℕ)
-descriptor_types = codes "CFI_cdesc_t" ∷ codes "CFI_attribute_t" ∷ codes "CFI_index_t" ∷ codes "CFI_rank_t" ∷ codes "CFI_type_t" ∷ []
+abbrev pub descriptor_types : List Declaration
+descriptor_types = type_name "CFI_cdesc_t" "__CFI_descriptor" ∷ type_name "CFI_attribute_t" "signed char" ∷ type_name "CFI_index_t" "ptrdiff_t"
+    ∷ type_name "CFI_rank_t" "signed char" ∷ type_name "CFI_type_t" "short" ∷ []
 
 -- its functions (18.5.5)
-abbrev pub descriptor_functions : List (List ℕ)
-descriptor_functions = codes "CFI_address" ∷ codes "CFI_allocate" ∷ codes "CFI_deallocate" ∷ codes "CFI_establish" ∷ codes "CFI_is_contiguous" ∷ codes "CFI_section" ∷ codes "CFI_select_part" ∷ codes "CFI_setpointer" ∷ []
+abbrev pub descriptor_functions : List Declaration
+descriptor_functions = function "CFI_address" "void *" "const CFI_cdesc_t * , const CFI_index_t [ ]"
+    ∷ function "CFI_allocate" "int" "CFI_cdesc_t * , const CFI_index_t [ ] , const CFI_index_t [ ] , size_t"
+    ∷ function "CFI_deallocate" "int" "CFI_cdesc_t *"
+    ∷ function "CFI_establish" "int" "CFI_cdesc_t * , void * , CFI_attribute_t , CFI_type_t , size_t , CFI_rank_t , const CFI_index_t [ ]"
+    ∷ function "CFI_is_contiguous" "int" "const CFI_cdesc_t *"
+    ∷ function "CFI_section" "int" "CFI_cdesc_t * , const CFI_cdesc_t * , const CFI_index_t [ ] , const CFI_index_t [ ] , const CFI_index_t [ ]"
+    ∷ function "CFI_select_part" "int" "CFI_cdesc_t * , const CFI_cdesc_t * , size_t , size_t"
+    ∷ function "CFI_setpointer" "int" "CFI_cdesc_t * , CFI_cdesc_t * , const CFI_index_t [ ]" ∷ []
 
 -- its macros: the greatest rank and the version, and the codes of attributes, of types and of errors (18.5.4)
 abbrev pub descriptor_codes : List Definition
