@@ -1,7 +1,9 @@
 //! Single tokens that stand first.
 
 use super::words::tokens_of;
-use crate::{braced, broken, closed, colon, comma_at, deep, ended, ends_braces, last_comma};
+use c_expression_read::{
+    braced, broken, closed, colon, comma_at, deep, ended, ends_braces, last_comma,
+};
 use c_grammar::{Fault, Kind, ReadError, Token};
 use std::test::Fail;
 

@@ -12,7 +12,7 @@ mod specifiers;
 mod tokens;
 mod words;
 
-use crate::{
+use c_expression_read::{
     read_assignment, read_constant, read_declarator, read_expression, read_nested_expression,
     read_specifiers, read_typed,
 };

@@ -2,7 +2,7 @@
 
 use super::words::tokens_of;
 use super::{DEPTH, Form, Reading, check, end_of, types};
-use crate::{is_typedef, name_of, read_typed};
+use c_expression_read::{is_typedef, name_of, read_typed};
 use c_grammar::Allowed;
 use std::alloc::{AllocError, Global};
 use std::test::Fail;

@@ -2,7 +2,7 @@
 
 use super::words::tokens_of;
 use super::{DEPTH, Form, Reading, check};
-use crate::{number, read_expression};
+use c_expression_read::{number, read_expression};
 use c_grammar::Allowed;
 use c_scope::Scope;
 use c_tree::Expr;
