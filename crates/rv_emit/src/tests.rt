@@ -2,6 +2,6 @@
 
 mod build;
 mod calls;
-mod frames;
 mod flow;
+mod frames;
 mod names;
