@@ -1,8 +1,8 @@
 use Rattle.std.proofs.Common.{◌<◌, length, sym, subst}
 use Rattle.flatten.specs.declared.blocks.BlockProc.{BlockProc}
 use Rattle.block_homes.specs.Valid.{IsNamed}
-use Rattle.alloc_speed.proofs.Picked.{homes_at}
-use Rattle.alloc_speed.proofs.sums_of.Goals as goal
+use Rattle.back_end_speed.proofs.Picked.{homes_at}
+use Rattle.back_end_speed.proofs.stages.valid_of.Goals as goal
 
 pub validate-requires-clause-named : goal.validate-requires-clause-named
 validate-requires-clause-named c =

@@ -8,12 +8,14 @@ use std::alloc::{AllocError, Global};
 #[derive(Clone, Copy)]
 enum Shape {
     Straight,
-    Loops,
     Choices,
+    Loops,
+    DeepChoices,
+    DeepLoops,
     Alive,
     Groups,
     Wide,
-    Small,
+    Procedures,
 }
 
 fn operation(
@@ -80,8 +82,26 @@ fn loops(alloc: Global, values: u32, count: u32) -> Result<Vec<FlatStmt>, AllocE
     Ok(stmts)
 }
 
+/// Choices in a row, each with a statement on both of its sides.
+fn choices(alloc: Global, values: u32, count: u32) -> Result<Vec<FlatStmt>, AllocError> {
+    let mut stmts = Vec::new(alloc);
+    let mut last = 0;
+    for _ in 0..count / 3 {
+        let next = if last == values { 0 } else { last };
+        last = next.saturating_add(1);
+        let first = vec![in alloc; one_more(alloc, next, next)?]?;
+        let second = vec![in alloc; FlatStmt::Set(next, FlatExpr::Number(1))]?;
+        stmts.push(FlatStmt::If(
+            FlatExpr::Value(next),
+            List::from_vec(first),
+            List::from_vec(second),
+        ))?;
+    }
+    Ok(stmts)
+}
+
 /// Choices within one another, each with a statement behind it.
-fn choices(alloc: Global, count: u32) -> Result<Vec<FlatStmt>, AllocError> {
+fn deep_choices(alloc: Global, count: u32) -> Result<Vec<FlatStmt>, AllocError> {
     let mut stmts = Vec::new(alloc);
     for _ in 0..count / 3 {
         let other = vec![in alloc; one_more(alloc, 0, 0)?]?;
@@ -91,6 +111,20 @@ fn choices(alloc: Global, count: u32) -> Result<Vec<FlatStmt>, AllocError> {
             List::from_vec(other),
         );
         stmts = vec![in alloc; choice, one_more(alloc, 0, 0)?]?;
+    }
+    Ok(stmts)
+}
+
+/// Loops within one another, each of which is left for the outermost one's end.
+fn deep_loops(alloc: Global, count: u32) -> Result<Vec<FlatStmt>, AllocError> {
+    let mut stmts = Vec::new(alloc);
+    let turns = count / 3;
+    for k in 0..turns {
+        stmts.push(FlatStmt::Break(turns - 1 - k))?;
+        stmts = vec![in alloc;
+            one_more(alloc, 0, 0)?,
+            FlatStmt::Loop(List::from_vec(stmts)),
+        ]?;
     }
     Ok(stmts)
 }
@@ -133,6 +167,21 @@ fn wide(alloc: Global, count: u32) -> Result<Vec<FlatStmt>, AllocError> {
     Ok(vec![in alloc; FlatStmt::Set(0, all)]?)
 }
 
+/// A loop, and a call of the first procedure with all values.
+fn calling(alloc: Global, values: u32) -> Result<Vec<FlatStmt>, AllocError> {
+    let mut stmts = loops(alloc, 1, 5)?;
+    let mut arguments = Vec::new(alloc);
+    for v in 0..values {
+        arguments.push(FlatExpr::Value(v))?;
+    }
+    stmts.push(FlatStmt::Call(
+        List::from_vec(Vec::new(alloc)),
+        0,
+        List::from_vec(arguments),
+    ))?;
+    Ok(stmts)
+}
+
 /// A procedure that sets all of its values, has these statements, and ends at a limit.
 fn proc_of(alloc: Global, values: u32, body: Vec<FlatStmt>) -> Result<FlatProc, AllocError> {
     let mut stmts = Vec::new(alloc);
@@ -155,11 +204,17 @@ fn shape_of(name: &str) -> Option<Shape> {
     if name == "straight" {
         return Some(Shape::Straight);
     }
+    if name == "choices" {
+        return Some(Shape::Choices);
+    }
     if name == "loops" {
         return Some(Shape::Loops);
     }
-    if name == "choices" {
-        return Some(Shape::Choices);
+    if name == "deep_choices" {
+        return Some(Shape::DeepChoices);
+    }
+    if name == "deep_loops" {
+        return Some(Shape::DeepLoops);
     }
     if name == "alive" {
         return Some(Shape::Alive);
@@ -170,8 +225,8 @@ fn shape_of(name: &str) -> Option<Shape> {
     if name == "wide" {
         return Some(Shape::Wide);
     }
-    if name == "small" {
-        return Some(Shape::Small);
+    if name == "procedures" {
+        return Some(Shape::Procedures);
     }
     None
 }
@@ -185,31 +240,35 @@ fn body_of(
 ) -> Result<Vec<FlatStmt>, AllocError> {
     match shape {
         Shape::Straight => straight(alloc, values, count),
+        Shape::Choices => choices(alloc, values, count),
         Shape::Loops => loops(alloc, values, count),
-        Shape::Choices => choices(alloc, count),
+        Shape::DeepChoices => deep_choices(alloc, count),
+        Shape::DeepLoops => deep_loops(alloc, count),
         Shape::Alive => alive(alloc, values, count),
         Shape::Groups => groups(alloc, values, count),
         Shape::Wide => wide(alloc, count),
-        Shape::Small => loops(alloc, values, 15),
+        Shape::Procedures => calling(alloc, values),
     }
 }
 
 fn values_of(shape: Shape) -> u32 {
     match shape {
         Shape::Straight => 200,
+        Shape::Choices => 20,
         Shape::Loops => 20,
-        Shape::Choices => 1,
+        Shape::DeepChoices => 1,
+        Shape::DeepLoops => 1,
         Shape::Alive => 500,
         Shape::Groups => 1000,
         Shape::Wide => 1,
-        Shape::Small => 3,
+        Shape::Procedures => 10,
     }
 }
 
 fn procs_of(alloc: Global, shape: Shape, count: u32) -> Result<Vec<FlatProc>, AllocError> {
     let values = values_of(shape);
     let times = match shape {
-        Shape::Small => count / 19,
+        Shape::Procedures => count / 20,
         _ => 1,
     };
     let mut procs = Vec::new(alloc);
