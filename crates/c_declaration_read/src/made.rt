@@ -7,17 +7,10 @@ ghost use Rattle.c_unit_grammar.specs.Statements.{Braced, Bare, Declares, init};
 ghost use Rattle.c_expression_read.specs.Views.{view_specifier, view_typed, view_declarator, specs_of};
 ghost use Rattle.c_declaration_read.specs.Views.{view_initializer, view_init, view_declaration, initials_of, with_first};
 
+use c_expression_read::in_front;
 use c_tree::{Declaration, Declarator, InitDeclarator, Initializer, Specifier, Typed};
 use jf_base::List;
 use std::alloc::{AllocError, Global};
-
-// A list of the first and the others.
-fn in_front<T: Drop>(first: T, mut others: Vec<T>) -> Result<List<T>, AllocError>
-    ensures { IfOk result (λ all. all ≡ first ∷ others.items) }
-{
-    others.insert(0, first)?;
-    Ok(List::from_vec(others))
-}
 
 /// Initial values in braces: the first and the others, and whether a comma is behind them.
 pub fn braced(
@@ -28,7 +21,7 @@ pub fn braced(
 ) -> Result<Initializer, AllocError>
     ensures { IfOk result (λ i. view_initializer i ≡ Braced (view_initializer first) (initials_of (map view_initializer others.items)) has_comma) }
 {
-    let items = in_front(first, others)?;
+    let items = List::from_vec(in_front(first, others)?);
     Ok(Initializer::Braced {
         items,
         has_comma,
@@ -78,7 +71,7 @@ pub fn declaration(
     } = first;
     let name_at = declarator.at;
     let first = init_declarator(declarator, value, name_at);
-    let declarators = in_front(first, others)?;
+    let declarators = List::from_vec(in_front(first, others)?);
     Ok(Declaration {
         specifiers,
         declarators,

@@ -12,6 +12,7 @@ mod run;
 mod specifier;
 mod word;
 
+pub use made::in_front;
 pub use naming::{is_typedef, name_of};
 pub use read::{
     read_assignment, read_constant, read_declarator, read_expression, read_nested_expression,
@@ -20,6 +21,3 @@ pub use read::{
 pub use word::{
     braced, broken, closed, colon, comma_at, deep, ended, ends_braces, last_comma, number,
 };
-
-#[cfg(test)]
-mod tests;

@@ -8,7 +8,8 @@ ghost use Rattle.f_expr_read.specs.Gives.{Gives, taken};
 ghost use Rattle.f_expr_read.specs.Views.{tokens_of, view, view_reference, view_type};
 
 use crate::error::ReadError;
-use crate::reader::{expression, reference, type_spec};
+use crate::reader::{expression, reference};
+use crate::types::type_spec;
 use f_lex::Spanned;
 use f_tree::{Expression, Reference, TypeSpec};
 use std::alloc::Global;

@@ -379,8 +379,9 @@ pub fn begins_typed(tokens: &[Spanned]) -> bool
     }
 }
 
+/// What stands behind the parentheses that stand first, if they do.
 #[tactic(auto, unfolding(f_grammar::specs::Reading::behind_group))]
-fn behind_group(tokens: &[Spanned]) -> &[Spanned]
+pub fn behind_group(tokens: &[Spanned]) -> &[Spanned]
     ensures { tokens_of result.now ≡ behind_group (tokens_of tokens.now) }
 {
     match tokens {

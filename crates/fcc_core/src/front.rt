@@ -1,13 +1,12 @@
 //! The front half: from the names of files to a program.
 ghost use Rattle.std.specs.Prelude.{◌≡◌, ◌≤◌, length};
 ghost use Rattle.fcc_core.specs.Front.{IsReadAs, IsFronted, front_fault};
-ghost use Rattle.source_tokens.specs.Sources.{is_fortran_name};
 ghost use Rattle.fcc_core.specs.Sources.{is_c_name, misplaced};
 
 use first_form::{FirstProgram, Reading, read_pair};
 use jf_base::{Place, Tag, Text};
 use jf_outside::Library;
-use source_tokens::{SourceFault, read_sources};
+use source_tokens::{SourceFault, is_fortran_name, read_sources};
 use std::alloc::Global;
 
 /// The rule that a source is in the form that is built so far.
@@ -29,13 +28,6 @@ fn front_fault(fault: SourceFault) -> FrontFault
         SourceFault::Library(name) => FrontFault::Library(name),
         SourceFault::Source { place, tag } => FrontFault::Source { place, tag },
     }
-}
-
-// Whether the name is that of a Fortran file.
-fn is_fortran_name(name: &Text) -> bool
-    ensures { result ≡ is_fortran_name name.now }
-{
-    name.as_str().as_bytes().ends_with(b".f90")
 }
 
 // Whether the name is that of a C file.

@@ -7,7 +7,7 @@ mod source;
 
 pub use files::read_sources;
 pub use laws::{no_broken_rule_beside_sources, one_list_of_sources};
-pub use source::{SourceFault, SourceFile, SourceTokens};
+pub use source::{SourceFault, SourceFile, SourceTokens, is_fortran_name};
 
 #[cfg(test)]
 mod tests;

@@ -44,8 +44,8 @@ pub enum SourceFault {
     Source { place: Place, tag: Tag },
 }
 
-// Whether the name is that of a Fortran file.
-fn is_fortran_name(name: &Text) -> bool
+/// Whether the name is that of a Fortran file: it ends with `.f90`.
+pub fn is_fortran_name(name: &Text) -> bool
     ensures { result ≡ is_fortran_name name.now }
 {
     name.as_str().as_bytes().ends_with(b".f90")
