@@ -53,7 +53,8 @@ fn first_too_deep(around: u32, tokens: &[Spanned]) -> Option<Place>
 /// The place of the first parenthesis or bracket that opens a nesting too many, where `around` constructs are around the statement. Constructs,
 /// parentheses and brackets together nest at most 64 deep.
 pub fn too_deep(around: u32, tokens: &[Spanned]) -> Option<Place>
-    ensures { MatchOption result (deeper around 0 (tokens_of tokens.now) ≡ false) (OpensTooDeep around tokens.now) }
+    ensures exact { result ≡ too_deep_at around 0 tokens.now }
+    ensures first { MatchOption result (deeper around 0 (tokens_of tokens.now) ≡ false) (OpensTooDeep around tokens.now) }
 {
     first_too_deep(around, tokens)
 }

@@ -1,0 +1,5 @@
+pub mod Stacks
+pub mod Turns
+pub mod Agreeing
+pub mod Inside
+pub mod Whole
