@@ -1,7 +1,11 @@
 pub mod Plain
+pub mod Parts
 pub mod Texts
 pub mod Stddef
 pub mod Stdbool
 pub mod Stdlib
 pub mod Strings
 pub mod Stdio
+pub mod Limits
+pub mod Stdint
+pub mod Binding

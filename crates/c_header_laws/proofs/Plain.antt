@@ -1,7 +1,8 @@
 -- Texts without trigraphs, splices and carriage returns: their characters are their bytes.
-use Rattle.std.proofs.Common.{◌≡◌, ℕ, ◌+◌, Bool, true, false, cond, eqb, List, [], ◌∷◌, length, None, refl, ap, ◌∙◌}
+use Rattle.std.proofs.Common.{◌≡◌, ℕ, ◌+◌, Bool, true, false, cond, eqb, List, [], ◌∷◌, None, refl, ap, ◌∙◌}
 use Rattle.c_text.specs.Characters.{character, characters, joined, is_splice, trigraph_at, written, written_at}
-use Rattle.c_text.specs.Source.{cuts, lexemes_from, lexemes_in, text_of}
+use Rattle.c_text.specs.Source.{lexemes_in, text_of}
+use Rattle.c_text.specs.Lines.{lexemes_of}
 use Rattle.c_text.specs.declared.kind.Lexeme.{Lexeme}
 
 -- `?`, a carriage return and a backslash are left out
@@ -79,8 +80,13 @@ joined_plain (b ∷ bs) line column e =
     by_line true n p q = joined_one 10 line column (line + 1) 1 bs refl p
     by_line false n p q = joined_one b line column line (column + 1) bs n q
 
+-- the lexemes of bytes from a line on
+unfoldable pub lexemes_at : ℕ → List ℕ → List Lexeme
+lexemes_at line bytes = lexemes_of (made character line 1 bytes)
+
 abbrev pub plain_lexemes : List ℕ → List Lexeme
-plain_lexemes bytes = lexemes_from false (cuts (length (made character 1 1 bytes)) (made character 1 1 bytes))
+plain_lexemes bytes = lexemes_at 1 bytes
 
 pub lexemes_plain : (bytes : List ℕ) → is_plain bytes ≡ true → lexemes_in bytes ≡ plain_lexemes bytes
-lexemes_plain bytes e = let same : text_of bytes ≡ made character 1 1 bytes = ap (joined false) (characters_plain bytes 1 1 e) ∙ joined_plain bytes 1 1 e in ap (λ text. lexemes_from false (cuts (length text) text)) same
+unfolding lexemes_at
+lexemes_plain bytes e = let same : text_of bytes ≡ made character 1 1 bytes = ap (joined false) (characters_plain bytes 1 1 e) ∙ joined_plain bytes 1 1 e in ap lexemes_of same

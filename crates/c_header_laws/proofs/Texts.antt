@@ -1,5 +1,5 @@
 -- The texts of the built-in headers, as they are read.
-use Rattle.std.proofs.Common.{◌≡◌, ℕ, Bool, true, false, List, [], ◌∷◌, Ok, Err, refl, ap, ◌∙◌, length}
+use Rattle.std.proofs.Common.{◌≡◌, ℕ, Bool, true, false, List, [], ◌∷◌, Ok, Err, map, refl, ap, ◌∙◌, length}
 use Rattle.std.specs.Prelude.{⊤, nat_lt, codes}
 use Prim.Native.String.{String}
 use Rattle.c_text.specs.declared.kind.Kind.{Kind}
@@ -30,8 +30,8 @@ use Rattle.c_directives.specs.Replacement.{bare}
 use Rattle.c_directives.specs.declared.origin.Origin.TheVariants.{Included}
 use Rattle.c_headers.specs.declared.header.Header.{Header}
 use Rattle.c_headers.specs.Headers.{text_of}
-use Rattle.c_header_laws.specs.Declared.{Front, declared, Definition, with_all}
-use Rattle.c_header_laws.proofs.Plain.{is_plain, plain_lexemes, lexemes_plain}
+use Rattle.c_header_laws.specs.Declared.{Front, declared, Declaration, written_in, Definition, with_all}
+use Rattle.c_header_laws.proofs.Plain.{is_plain, lexemes_at, plain_lexemes, lexemes_plain}
 use Rattle.c_header_laws.specs.Headers.{start, DeclaresItsNames}
 
 -- ---- lexemes as they are written down
@@ -53,26 +53,32 @@ line_end line column = lexeme kind.LineEnd (10 ∷ []) line column false
 
 -- what is opened to read a text
 unfoldable pub closed_texts : ⊤
-unfolding is_next third_of trigraph_at written_at characters joined class_of longest mark_length quote_at prefixed_at literal_at word_at mark_at slash_at dot_at piece_at byte_at digit_is_next word_rest number_rest line_rest comment_rest literal_rest cuts rows head_at is_hash is_paste directive_of first_ill token_of is_number is_character is_string between mark_of bracket_of digraph_of arithmetic_of logic_of assignment_of constant_at radix_at suffix_at long_at unsigned_at digits_at digit_at lines_at line_at act_at turn_at text_at put_lexeme put_name define_at one_name is_macro_name list_rule is_open has_hash tokens_of expansion among along declared spelled_token spelling_of
+unfolding is_next third_of trigraph_at written_at characters joined class_of longest mark_length quote_at prefixed_at literal_at word_at mark_at slash_at dot_at piece_at byte_at digit_is_next word_rest number_rest line_rest comment_rest literal_rest cuts rows head_at is_hash is_paste directive_of first_ill token_of is_number is_character is_string between mark_of bracket_of digraph_of arithmetic_of logic_of assignment_of constant_at radix_at suffix_at long_at unsigned_at digits_at digit_at lines_at line_at act_at turn_at text_at put_lexeme put_name define_at one_name is_macro_name list_rule is_open has_hash tokens_of expansion among along declared written_in spelled_token spelling_of lexemes_at
 closed_texts = tt
 
 -- ---- a text that is short enough is read line by line
 
--- whether a text was read, how many calls are left, and what it declares
+-- whether a text was read, how many calls are left, and what it declares, by names and as it is written
 pub data Course : Type 0 where
-  Ends : (is_read : Bool) (calls : ℕ) (names : List (List ℕ)) → Course
+  Ends : (is_read : Bool) (calls : ℕ) (names texts : List (List ℕ)) → Course
 
 abbrev pub course_of : Read State → Course
-course_of (Ok s) = Ends true s.calls (declared Front (bare s.work.out))
-course_of (Err e) = Ends false 0 []
+course_of (Ok s) = Ends true s.calls (declared Front (bare s.work.out)) (written_in [] (bare s.work.out))
+course_of (Err e) = Ends false 0 [] []
 
-calls_are : {a b : ℕ} {xs ys : List (List ℕ)} → Ends true a xs ≡ Ends true b ys → a ≡ b
+abbrev pub ends_with : ℕ → List Declaration → Course
+ends_with calls ds = Ends true calls (map (λ d. d.name) ds) (map (λ d. d.written) ds)
+
+calls_are : {a b : ℕ} {xs ys vs ws : List (List ℕ)} → Ends true a xs vs ≡ Ends true b ys ws → a ≡ b
 calls_are e = cc
 
-names_are : {a b : ℕ} {xs ys : List (List ℕ)} → Ends true a xs ≡ Ends true b ys → xs ≡ ys
+names_are : {a b : ℕ} {xs ys vs ws : List (List ℕ)} → Ends true a xs vs ≡ Ends true b ys ws → xs ≡ ys
 names_are e = cc
 
-no_end : {a b : ℕ} {xs ys : List (List ℕ)} → Ends false a xs ≡ Ends true b ys → ⊥
+texts_are : {a b : ℕ} {xs ys vs ws : List (List ℕ)} → Ends true a xs vs ≡ Ends true b ys ws → vs ≡ ws
+texts_are e = cc
+
+no_end : {a b : ℕ} {xs ys vs ws : List (List ℕ)} → Ends false a xs vs ≡ Ends true b ys ws → ⊥
 no_end e = cc
 
 abbrev pub macros_behind : Read State → Macros
@@ -83,11 +89,11 @@ module _ (including : Including) (place : Place) (calls : ℕ) where
   abbrev pub read_of : List Lexeme → Read State
   read_of ls = lines_at including most_tokens (Included place) ([], start calls) (rows ls)
 
-  pub declares_by : (header : Header) (names : List (List ℕ)) (definitions : List Definition) (ls : List Lexeme) → nat_lt most_bytes (length (text_of header)) ≡ false → is_plain (text_of header) ≡ true
-      → plain_lexemes (text_of header) ≡ ls → course_of (read_of ls) ≡ Ends true calls names → macros_behind (read_of ls) ≡ with_all no_macros definitions → DeclaresItsNames header names definitions including place calls
+  pub declares_by : (header : Header) (declarations : List Declaration) (definitions : List Definition) (ls : List Lexeme) → nat_lt most_bytes (length (text_of header)) ≡ false → is_plain (text_of header) ≡ true
+      → plain_lexemes (text_of header) ≡ ls → course_of (read_of ls) ≡ ends_with calls declarations → macros_behind (read_of ls) ≡ with_all no_macros definitions → DeclaresItsNames header declarations definitions including place calls
   unfolding file_at
-  declares_by header names definitions ls short plainly lexes course macros = by_cases (read_of ls) refl course macros
+  declares_by header declarations definitions ls short plainly lexes course macros = by_cases (read_of ls) refl course macros
     where
-      by_cases : (r : Read State) → read_of ls ≡ r → course_of r ≡ Ends true calls names → macros_behind r ≡ with_all no_macros definitions → DeclaresItsNames header names definitions including place calls
-      by_cases (Ok s) same c m = record { read = s; breaks_no_rule = rw short (ap read_of (lexemes_plain (text_of header) plainly ∙ lexes) ∙ same); asks_nothing = calls_are c; declares = names_are c; defines = m }
+      by_cases : (r : Read State) → read_of ls ≡ r → course_of r ≡ ends_with calls declarations → macros_behind r ≡ with_all no_macros definitions → DeclaresItsNames header declarations definitions including place calls
+      by_cases (Ok s) same c m = record { read = s; breaks_no_rule = rw short (ap read_of (lexemes_plain (text_of header) plainly ∙ lexes) ∙ same); asks_nothing = calls_are c; declares = names_are c; written = texts_are c; defines = m }
       by_cases (Err e) same c m = absurd (no_end c)

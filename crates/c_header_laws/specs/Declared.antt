@@ -1,5 +1,5 @@
 -- What declarations declare, and what definitions make.
-use Rattle.std.specs.Prelude.{ℕ, List, [], ◌∷◌, map, codes, true, false, if◌then◌else◌}
+use Rattle.std.specs.Prelude.{ℕ, List, [], ◌∷◌, ◌++◌, map, codes, true, false, if◌then◌else◌}
 use Prim.Native.String.{String}
 use Rattle.std.specs.Str.{bytes_eq}
 use Rattle.c_token.specs.declared.token.CToken.{CToken}
@@ -30,6 +30,31 @@ declared (Typedef last) (Mark mark.Semicolon ∷ ts) = last ∷ declared Front t
 declared (Prototype last) (Mark mark.Open ∷ ts) = last ∷ declared Behind ts
 declared Behind (Mark mark.Semicolon ∷ ts) = declared Front ts
 declared part (t ∷ ts) = declared part ts
+
+-- a declaration: the name that it declares, and how it is written in front of its semicolon, with a blank between its tokens
+pub record Declaration : Type 0 where
+  pub name : List ℕ
+  pub written : List ℕ
+
+abbrev pub type_name : String → String → Declaration
+type_name name meaning = record { name = codes name; written = codes "typedef " ++ (codes meaning ++ 32 ∷ codes name) }
+
+abbrev pub function : String → String → String → Declaration
+function name result parameters = record { name = codes name; written = codes result ++ 32 ∷ (codes name ++ (codes " ( " ++ (codes parameters ++ codes " )"))) }
+
+abbrev pub followed_by : List ℕ → List ℕ → List ℕ
+followed_by [] s = s
+followed_by (b ∷ bs) s = (b ∷ bs) ++ 32 ∷ s
+
+abbrev pub left_over : List ℕ → List (List ℕ)
+left_over [] = []
+left_over (b ∷ bs) = (b ∷ bs) ∷ []
+
+-- how declarations are written, where this stands in front of the first: each up to its semicolon, and what has none
+unfoldable pub written_in : List ℕ → List CToken → List (List ℕ)
+written_in front [] = left_over front
+written_in front (Mark mark.Semicolon ∷ ts) = front ∷ written_in [] ts
+written_in front (t ∷ ts) = written_in (followed_by front (spelled_token t)) ts
 
 -- a name, and what it is defined as
 pub data Definition : Type 0 where
@@ -64,6 +89,10 @@ word name other = defines name (Id (codes other) ∷ [])
 -- (-digits)
 abbrev pub negative : String → String → Definition
 negative name digits = defines name (Mark mark.Open ∷ Mark mark.Minus ∷ Number (codes digits) ∷ Mark mark.Close ∷ [])
+
+-- (-digits-1)
+abbrev pub least : String → String → Definition
+least name digits = defines name (Mark mark.Open ∷ Mark mark.Minus ∷ Number (codes digits) ∷ Mark mark.Minus ∷ Number (codes "1") ∷ Mark mark.Close ∷ [])
 
 -- ((void*)0)
 abbrev pub null : Definition

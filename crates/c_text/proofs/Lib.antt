@@ -4,3 +4,4 @@ pub mod Cuts
 pub mod Runs
 pub mod PieceLaws
 pub mod WholeLaws
+pub mod Apart

@@ -6,3 +6,4 @@ pub mod Pieces
 pub mod Source
 pub mod Grammar
 pub mod Lexing
+pub mod Lines

@@ -6,6 +6,7 @@ ghost use Rattle.c_text.specs.Source.{cuts};
 ghost use Rattle.c_text.specs.Marks.{punctuators, mark_length, IsLongest};
 ghost use Rattle.c_text.specs.Grammar.{Text, Shape};
 ghost use Rattle.c_text.specs.Lexing.{Consists, cuts_of, Lexes};
+ghost use Rattle.c_text.specs.Lines.{LinesAreApart};
 
 /// Each text consists of pieces.
 pub fn each_text_consists_of_pieces()
@@ -25,4 +26,10 @@ pub fn one_list_of_lexemes()
 /// A punctuator is the longest that a text begins with.
 pub fn punctuators_are_longest()
     ensures { (text : Text) → IsLongest punctuators text (mark_length text) }
+{}
+
+/// A text may be read line by line: where no comment and no literal in front of a line's end lacks its own end, the lexemes up to the line's end are the same
+/// whatever follows, and those of what follows stand behind them.
+pub fn lines_are_apart()
+    ensures { LinesAreApart }
 {}

@@ -16,7 +16,7 @@ mod rests;
 pub use character::Point;
 pub use kind::{Kind, Lexeme};
 pub use laws::{
-    each_text_consists_of_pieces, one_list_of_lexemes, pieces_are_those_read,
+    each_text_consists_of_pieces, lines_are_apart, one_list_of_lexemes, pieces_are_those_read,
     punctuators_are_longest,
 };
 pub use lexer::lexemes;

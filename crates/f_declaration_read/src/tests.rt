@@ -75,18 +75,36 @@ fn put(out: &mut Lexemes, statement: &Declared) -> Result<(), AllocError> {
     }
 }
 
+// The text of a statement.
+fn text_written(alloc: Global, statement: &Declared) -> Result<Vec<u8>, AllocError> {
+    let mut out = Lexemes::new(alloc);
+    put(&mut out, statement)?;
+    text_of(alloc, &out.into_vec())
+}
+
+// Whether two lines have the same tokens.
+fn same_tokens(alloc: Global, first: &[u8], second: &[u8]) -> Result<bool, AllocError> {
+    let first = line(alloc, first)?;
+    let second = line(alloc, second)?;
+    Ok(same(&first, &second))
+}
+
+// The text of what a line is read as, or none.
+fn text_again(alloc: Global, text: &str) -> Result<Option<Vec<u8>>, AllocError> {
+    match read(alloc, text)? {
+        None => Ok(None),
+        Some(statement) => {
+            let written = text_written(alloc, &statement)?;
+            Ok(Some(written))
+        }
+    }
+}
+
 // Whether a line is read, and written with the same tokens.
 fn is_kept(alloc: Global, text: &str) -> Result<bool, AllocError> {
-    match read(alloc, text)? {
+    match text_again(alloc, text)? {
         None => Ok(false),
-        Some(statement) => {
-            let mut out = Lexemes::new(alloc);
-            put(&mut out, &statement)?;
-            let written = text_of(alloc, &out.into_vec())?;
-            let before = line(alloc, text.as_bytes())?;
-            let after = line(alloc, &written)?;
-            Ok(same(&before, &after))
-        }
+        Some(written) => same_tokens(alloc, text.as_bytes(), &written),
     }
 }
 

@@ -12,3 +12,6 @@ mod writer;
 
 pub use frame::frame_size;
 pub use units::emit;
+
+#[cfg(test)]
+mod tests;

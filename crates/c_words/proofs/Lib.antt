@@ -1,0 +1,5 @@
+pub mod Constants
+pub mod Joining
+pub mod Named
+pub mod Putting
+pub mod Numbered
