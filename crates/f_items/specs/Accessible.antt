@@ -13,7 +13,7 @@ use Rattle.f_items.specs.declared.item.Declared.{Declared}
 use Rattle.f_items.specs.declared.item.ScopeKind.{ScopeKind}
 use Rattle.f_items.specs.declared.item.ScopeKind.TheVariants as kind
 use Rattle.f_items.specs.Places.{Scope, Open, Located, scope_of, At}
-use Rattle.f_items.specs.Declarations.{Declaration, declaration_of, IsDeclared}
+use Rattle.f_items.specs.Declarations.{Declaration, declaration_of, IsOwn}
 
 -- an item stands in the list, in this scope
 pub record Stands (p : List Located) (scope : ℕ) (item : Item) : Type 0 where
@@ -111,7 +111,7 @@ pub record IsEntity (p : List Located) (k : ℕ) : Type 0 where
 
 -- in the scope the name denotes what the item at place k declares: the scope declares it, or a USE statement gives it a public name of a module
 pub data Denotes (p : List Located) : ℕ → List ℕ → ℕ → Type 0 where
-  Own : (scope : ℕ) (name : List ℕ) (k : ℕ) → IsDeclared p scope name k → Denotes p scope name k
+  Own : (scope : ℕ) (name : List ℕ) (k : ℕ) → IsOwn p scope name k → Denotes p scope name k
   Used : (scope m : ℕ) (module_name local used : List ℕ) (k : ℕ) → Grants p scope module_name local used → IsModule p module_name m
       → is_public p m used ≡ true → IsEntity p k → Denotes p m used k → Denotes p scope local k
 
@@ -148,7 +148,7 @@ Continues p s name = s.kind ≡ kind.InterfaceBody → IsImported p s.number nam
 -- where these scopes are open, the name denotes what the item at place k declares
 pub data Visible (p : List Located) : Open → List ℕ → ℕ → Type 0 where
   -- around the program units, an intrinsic procedure
-  Intrinsic : (name : List ℕ) (k : ℕ) → IsDeclared p 0 name k → Visible p [] name k
+  Intrinsic : (name : List ℕ) (k : ℕ) → IsOwn p 0 name k → Visible p [] name k
   -- in the innermost scope
   Here : (s : Scope) (ss : Open) (name : List ℕ) (k : ℕ) → HasNames s.kind → Denotes p s.number name k → Visible p (s ∷ ss) name k
   -- in the scopes around it, which it doesn't hide

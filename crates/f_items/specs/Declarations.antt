@@ -1,5 +1,5 @@
 -- What a scope declares (ISO/IEC 1539-1:2018, 19.3.1 and 19.4).
-use Rattle.std.specs.Prelude.{◌≡◌, ℕ, List, Option, Some, None}
+use Rattle.std.specs.Prelude.{◌≡◌, ℕ, ◌<◌, List, Option, Some, None}
 use Rattle.f_items.specs.declared.item.Item.{Item}
 use Rattle.f_items.specs.declared.item.Item.TheVariants.{Declares, Heads}
 use Rattle.f_items.specs.declared.item.Declared.{Declared}
@@ -36,6 +36,11 @@ pub record IsDeclared (p : List Located) (scope : ℕ) (name : List ℕ) (k : �
   pub scope_is : declaration.scope ≡ scope
   pub name_is : declaration.what.name.bytes ≡ name
   pub tells : Tells declaration.what.share
+
+-- and it is the first that does, so that the scope's name is its; a second one breaks a rule
+pub record IsOwn (p : List Located) (scope : ℕ) (name : List ℕ) (k : ℕ) : Type 0 where
+  pub declared : IsDeclared p scope name k
+  pub none_before : (j : ℕ) → j < k → IsDeclared p scope name j → ⊥
 
 -- two declarations of one name in one scope are one too many, unless the first announces what the second types
 abbrev pub Clash : Share → Share → Type 0

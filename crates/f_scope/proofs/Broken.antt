@@ -116,7 +116,7 @@ module _ (p : List Located) (k : ℕ) (d : Declaration) where
   found i (Some e) looked = by_share e looked d.what.share refl
 
 -- the scope of a declaration is one of the table
-host_range : (rows : List ScopeRow) → AreHosts rows → (s : ℕ) → s < length rows → host_in rows s < length rows
+pub host_range : (rows : List ScopeRow) → AreHosts rows → (s : ℕ) → s < length rows → host_in rows s < length rows
 host_range rows h zero lt = let e : host_in rows 0 ≡ 0 = ap (λ r. r.host) h.first in omega (arith, e, lt)
 host_range rows h (suc s) lt = let le = h.before s in omega (arith, le, lt)
 

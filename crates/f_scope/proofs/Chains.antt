@@ -111,7 +111,7 @@ ready_at rows s (Enter k place) r =
     record { hosts = one_more rows row r.hosts r.some r.within; some = omega (arith, long); within = omega (arith, long) }
 ready_at rows s _ r = r
 
-around-chain : (rows : List ScopeRow) (s : ℕ) → AreHosts rows → chain_of rows (host_in rows s) ≡ around (chain_of rows s)
+pub around-chain : (rows : List ScopeRow) (s : ℕ) → AreHosts rows → chain_of rows (host_in rows s) ≡ around (chain_of rows s)
 around-chain rows zero h = ap (λ r. chain_of rows r.host) h.first ∙ chain-zero rows ∙ sym (ap around (chain-zero rows))
 around-chain rows (suc s) h = sym (ap around (chain-suc rows h s))
 

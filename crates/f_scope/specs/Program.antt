@@ -1,9 +1,10 @@
 -- What is known of a program: its items with their scopes, what each scope declares, and its modules.
-use Rattle.std.specs.Prelude.{ℕ, List, Option, Some, None, Bool, true, false, if◌then◌else◌, slice_get, length, map}
+use Rattle.std.specs.Prelude.{◌≡◌, ℕ, List, Option, Some, None, Bool, true, false, if◌then◌else◌, slice_get, length, map}
 use Rattle.f_items.specs.declared.item.ScopeKind.{ScopeKind}
 use Rattle.f_items.specs.declared.item.ScopeKind.TheVariants as kind
 use Rattle.f_items.specs.Places.{Located}
 use Rattle.f_items.specs.Accessible.{IsModule}
+use Rattle.f_items.specs.Scoped.{IsNamedTwice}
 use Rattle.f_scope.specs.declared.placement.ScopeRow.{ScopeRow}
 use Rattle.f_scope.specs.declared.placement.Placed.{Placed}
 use Rattle.f_scope.specs.declared.table.Entry.{Entry}
@@ -26,6 +27,15 @@ pub record AreTables (rows : List ScopeRow) (xs : List Placed) (own : List (List
   pub within : AreWithin (length rows) xs
   pub own_are : AreOwn (map (seen rows) xs) own (length rows)
   pub units_are : AreUnits (map (seen rows) xs) units
+
+-- the scopes, the items and the tables of what each scope declares are those of the program, in which no two units have one name
+pub record AreParts (o : Outline) (rows : List ScopeRow) (xs : List Placed) (own : List (List Row)) : Type 0 where
+  pub items_are : map (seen rows) xs ≡ o.items
+  pub scopes_are : length rows ≡ o.scopes
+  pub hosts : AreHosts rows
+  pub within : AreWithin (length rows) xs
+  pub own_are : AreOwn (map (seen rows) xs) own (length rows)
+  pub once : (k : ℕ) → IsNamedTwice (map (seen rows) xs) k → ⊥
 
 abbrev pub is_module_kind : ScopeKind → Bool
 is_module_kind kind.Module = true

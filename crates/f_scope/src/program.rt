@@ -4,7 +4,7 @@ ghost use Rattle.std.specs.Prelude.{◌≡◌, ◌<◌, [], IfOk, slice_get};
 ghost use Rattle.std.specs.Option.{option_copied};
 ghost use Rattle.f_items.specs.Places.{located};
 ghost use Rattle.f_scope.specs.Own.{IsTold};
-ghost use Rattle.f_scope.specs.Program.{is_module_kind, module_of, module_at, told_of, outline_of, AreTables, ModuleFound};
+ghost use Rattle.f_scope.specs.Program.{is_module_kind, module_of, module_at, told_of, outline_of, AreTables, AreParts, ModuleFound};
 ghost use Rattle.f_scope.specs.Tables.{entry_at, table_at};
 ghost use Rattle.f_scope.specs.Begun.{IsBegun};
 ghost use Rattle.f_scope.specs.Alone.{broken_item, DeclarationFound};
@@ -35,6 +35,14 @@ impl Model for Program {
     ghost view = { λ p. outline_of p.scopes.items p.items.items };
 
     ghost invariant = { λ p. AreTables p.scopes.items p.items.items p.own.items p.units };
+}
+
+/// What a program is made of, lent: its scopes by their numbers, its items, and the table of what each scope declares.
+#[derive(Clone, Copy)]
+pub struct Parts<'a> {
+    pub scopes: &'a [ScopeRow],
+    pub items: &'a [Placed],
+    pub own: &'a [Table],
 }
 
 /// What can be said of a program before a name is looked up in another scope.
@@ -72,7 +80,7 @@ fn module_of(scopes: &[ScopeRow], item: Option<&Placed>) -> Option<usize>
 
 /// The entry of a name in the table of a scope.
 #[tactic(auto, unfolding(crate::specs::Tables::entry_at))]
-fn entry_in(own: &[Table], scope: usize, name: &[u8]) -> Option<Entry>
+pub fn entry_in(own: &[Table], scope: usize, name: &[u8]) -> Option<Entry>
     ensures { result ≡ entry_at name.now (table_at own.now scope) }
 {
     if scope < own.len() {
@@ -152,6 +160,17 @@ fn program_of(scopes: Vec<ScopeRow>, items: Vec<Placed>, own: Vec<Table>, units:
 }
 
 impl Program {
+    /// Its scopes, its items and the table of what each scope declares.
+    pub fn parts(&self) -> Parts<'_>
+        ensures { AreParts self.now result.scopes.now result.items.now result.own.now }
+    {
+        Parts {
+            scopes: self.scopes.as_slice(),
+            items: self.items.as_slice(),
+            own: self.own.as_slice(),
+        }
+    }
+
     /// The first item that declares the name in the scope, counted from 0, if there is one.
     pub fn declared(&self, scope: usize, name: &[u8]) -> Option<usize>
         requires { scope < self.now.scopes }

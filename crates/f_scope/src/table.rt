@@ -1,6 +1,6 @@
 //! The names that a scope declares.
 
-ghost use Rattle.std.specs.Prelude.{◌≡◌, [], OnOk, OnErr};
+ghost use Rattle.std.specs.Prelude.{◌≡◌, [], OnOk, OnErr, None, Some, MatchOption, length, slice_get};
 ghost use Rattle.f_scope.specs.Tables.{entry_at, put, entry_with, noted};
 
 use indexmap::IndexMap;
@@ -61,6 +61,23 @@ impl Table {
         ensures { result ≡ entry_at name.now self.now }
     {
         self.entries.get(name).copied()
+    }
+
+    /// How many names it has.
+    pub fn len(&self) -> usize
+        ensures { result ≡ length self.now }
+    {
+        self.entries.len()
+    }
+
+    /// A name with its entry, by its number among the names.
+    pub fn row(&self, index: usize) -> Option<(&[u8], Entry)>
+        ensures { MatchOption result (slice_get self.now index ≡ None) (λ row. slice_get self.now index ≡ Some (row.0.now, row.1)) }
+    {
+        match self.entries.get_index(index) {
+            None => None,
+            Some((name, entry)) => Some((name.as_slice(), *entry)),
+        }
     }
 
     /// Gives a name an entry.

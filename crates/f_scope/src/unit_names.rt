@@ -11,7 +11,8 @@ use f_items::{Class, Item};
 use jf_base::List;
 use std::alloc::{AllocError, Global};
 
-fn is_unit_name(class: Class) -> bool
+/// The name of a program or of a module itself is declared so.
+pub fn is_unit_name(class: Class) -> bool
     ensures { result ≡ is_unit_name class }
 {
     match class {

@@ -1,0 +1,4 @@
+pub mod Growth
+pub mod Grants
+pub mod Listed
+pub mod Scopes

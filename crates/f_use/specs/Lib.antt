@@ -1,0 +1,4 @@
+pub mod Origins
+pub mod Places
+pub mod Uses
+pub mod Associated
