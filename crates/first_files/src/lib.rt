@@ -1,0 +1,6 @@
+//! The Fortran texts of the first form are files of Fortran's grammar, as a law.
+#![tactic(auto)]
+
+mod laws;
+
+pub use laws::texts_of_the_form_are_files;
