@@ -27,8 +27,7 @@ use Rattle.first_image.specs.Compiled.{IsCompiled, AreStandard, pace}
 use Rattle.first_meaning.specs.Joint.{joint}
 use Rattle.jf_base.specs.declared.place.Place.{Place}
 use Rattle.jf_base.specs.declared.tag.Tag.{Tag}
-use Rattle.source_tokens.specs.declared.source.SourceFile.{SourceFile}
-use Rattle.source_tokens.specs.Sources.{Files, AreSources, IsBroken, Reaches}
+use Rattle.source_tokens.specs.Sources.{Files, Source, AreSources, IsBroken, Reaches}
 use Rattle.source_tokens.proofs.OneList.{one_list, none_broken}
 use Rattle.fcc_core.specs.Outside.{SinkAt, Outside}
 use Rattle.fcc_core.specs.Front.{IsUnbuilt}
@@ -65,7 +64,7 @@ ended_by r m steps ending is p q le =
 
 -- two programs of the same files are the same
 module _ (files : Files) (names : List (List ℕ)) where
-  same_files : (f c f' c' : SourceFile) → AreSources files 0 0 names (f ∷ c ∷ []) → AreSources files 0 0 names (f' ∷ c' ∷ []) → (f.text ≡ f'.text) × (c.text ≡ c'.text)
+  same_files : (f c f' c' : Source) → AreSources files 0 0 names (f ∷ c ∷ []) → AreSources files 0 0 names (f' ∷ c' ∷ []) → (f.text ≡ f'.text) × (c.text ≡ c'.text)
   same_files f c f' c' p q =
       let same : f ∷ c ∷ [] ≡ f' ∷ c' ∷ [] = one_list files 0 0 names (f ∷ c ∷ []) (f' ∷ c' ∷ []) p q in
       let one : f ≡ f' = cc in

@@ -7,7 +7,7 @@ use Rattle.source_tokens.specs.declared.source.SourceFile.{SourceFile}
 use Rattle.source_tokens.specs.declared.source.SourceFault.{SourceFault}
 use Rattle.source_tokens.specs.declared.source.SourceFault.TheVariants as source
 use Rattle.source_tokens.specs.Outside.{LibraryAt, IsUntroubled}
-use Rattle.source_tokens.specs.Sources.{AreSources}
+use Rattle.source_tokens.specs.Sources.{Source, AreSources}
 use Rattle.source_tokens.specs.Reading.{Told, AreRead}
 use Rattle.first_form.specs.declared.program.FirstProgram.{FirstProgram}
 use Rattle.fcc_core.specs.Sources.{misplaced, Misplaced, InFortran, InC, IsNotBuilt}
@@ -38,12 +38,12 @@ module _ (names : List (List ℕ)) (before after : LibraryAt) where
       });
     }
 
-    pub misplaced_refused : (file : ℕ) (sources : List SourceFile) → misplaced names ≡ Some file → Told before (λ files. AreSources files 0 0 names sources)
+    pub misplaced_refused : (file : ℕ) (sources : List Source) → misplaced names ≡ Some file → Told before (λ files. AreSources files 0 0 names sources)
         → IsRefused names (record { file = file; line = 1; column = 1 }) (record { 0 = 1001 }) before after
     misplaced_refused file sources at given =
         refused _ _ file (record { file_is = refl; line_is = refl; tag_is = refl }) (λ files told. Misplaced file sources at (given files told))
 
-    module _ (fortran c : SourceFile) (placed : misplaced names ≡ None) (given : Told before (λ files. AreSources files 0 0 names (fortran ∷ c ∷ []))) where
+    module _ (fortran c : Source) (placed : misplaced names ≡ None) (given : Told before (λ files. AreSources files 0 0 names (fortran ∷ c ∷ []))) where
       pub fronted : (r : Result FirstProgram FrontFault) → IsReadAs fortran.text c.text r → IsFronted names r before after
       fronted (Ok program) read = (calm, read.1, λ files told. record { fortran = fortran; c = c; placed = placed; sources = given files told; are_texts = read.0 })
       fronted (Err fault.Memory) read = tt

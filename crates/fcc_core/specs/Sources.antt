@@ -1,9 +1,8 @@
 -- Which files make a program, and which is the first that doesn't.
 use Rattle.std.specs.Prelude.{◌≡◌, ℕ, List, [], ◌∷◌, codes, nat_eq, Bool, length, if◌then◌else◌, Option, Some, None}
 use Rattle.std.specs.List.{ends_with}
-use Rattle.source_tokens.specs.declared.source.SourceFile.{SourceFile}
 use Rattle.source_tokens.specs.Outside.{LibraryAt}
-use Rattle.source_tokens.specs.Sources.{Files, is_fortran_name, AreSources, IsDue, Reaches}
+use Rattle.source_tokens.specs.Sources.{Files, is_fortran_name, Source, AreSources, IsDue, Reaches}
 use Rattle.source_tokens.specs.Reading.{Told, HasFailed}
 use Rattle.first_form.specs.declared.program.FirstProgram.{FirstProgram}
 use Rattle.first_form.specs.Readings.{AreTexts, IsNoFortranText, IsFaultInC}
@@ -18,19 +17,19 @@ misplaced (fortran ∷ []) = Some 0
 misplaced (fortran ∷ c ∷ others) =
     if is_fortran_name fortran then (if is_c_name c then (if nat_eq (length others) 0 then None else Some 2) else Some 1) else Some 0
 
--- the files of these names are the program's: each has tokens, and their texts are in its form
+-- the files of these names are the program's: each has its tokens, those in Fortran are files of its grammar, and their texts are in the program's form
 pub record IsProgram (files : Files) (names : List (List ℕ)) (program : FirstProgram) : Type 0 where
-  pub fortran : SourceFile
-  pub c : SourceFile
+  pub fortran : Source
+  pub c : Source
   pub placed : misplaced names ≡ None
   pub sources : AreSources files 0 0 names (fortran ∷ c ∷ [])
   pub are_texts : AreTexts fortran.text c.text program
 
--- the file of this number is the first that isn't in the form that is built so far; all files have tokens
+-- the file of this number is the first that isn't in the form that is built so far; all files have their tokens, and those in Fortran their statements
 pub data IsNotBuilt (files : Files) (names : List (List ℕ)) : ℕ → Type 0 where
-  Misplaced : (k : ℕ) (sources : List SourceFile) → misplaced names ≡ Some k → AreSources files 0 0 names sources → IsNotBuilt files names k
-  InFortran : (fortran c : SourceFile) → misplaced names ≡ None → AreSources files 0 0 names (fortran ∷ c ∷ []) → IsNoFortranText fortran.text → IsNotBuilt files names 0
-  InC : (fortran c : SourceFile) → misplaced names ≡ None → AreSources files 0 0 names (fortran ∷ c ∷ []) → IsFaultInC fortran.text c.text → IsNotBuilt files names 1
+  Misplaced : (k : ℕ) (sources : List Source) → misplaced names ≡ Some k → AreSources files 0 0 names sources → IsNotBuilt files names k
+  InFortran : (fortran c : Source) → misplaced names ≡ None → AreSources files 0 0 names (fortran ∷ c ∷ []) → IsNoFortranText fortran.text → IsNotBuilt files names 0
+  InC : (fortran c : Source) → misplaced names ≡ None → AreSources files 0 0 names (fortran ∷ c ∷ []) → IsFaultInC fortran.text c.text → IsNotBuilt files names 1
 
 -- the library failed to give the file of this name, which is the next that is read; no rule is broken before
 pub record IsNotGiven (names : List (List ℕ)) (name : List ℕ) (before after : LibraryAt) : Type 0 where

@@ -2,10 +2,12 @@
 #![tactic(auto)]
 
 mod front;
+mod laws;
 mod say;
 mod tell;
 mod top;
 
+pub use laws::files_of_the_form_are_a_program;
 pub use tell::say_memory;
 pub use top::fcc;
 

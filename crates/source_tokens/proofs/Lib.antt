@@ -1,4 +1,5 @@
 pub mod Counting
+pub mod Statements
 pub mod One
 pub mod Many
 pub mod OneList

@@ -1,5 +1,5 @@
 -- One file.
-use Rattle.std.proofs.Common.{◌≡◌, ℕ, ◌+◌, ◌≤◌, List, Option, Some, None, IsSome, IfSome, true, false, Result, Ok, Err, refl, sym, ap, ◌∙◌, subst, inl, inr, lit≤}
+use Rattle.std.proofs.Common.{◌≡◌, ℕ, ◌+◌, ◌≤◌, List, map, Option, Some, None, IsSome, IfSome, true, false, Result, Ok, Err, refl, sym, ap, ◌∙◌, subst, inl, inr, lit≤}
 use Rattle.std.proofs.Math.Dec.{leb}
 use Rattle.std.specs.Prelude.{T, ◌/◌, ◌%◌, ◌-◌, slice_index}
 use Rattle.jf_base.specs.Tags.{IsTag, group_sizes}
@@ -10,6 +10,16 @@ use Rattle.jf_outside.specs.Listing.{listed}
 use Rattle.f_lex.specs.declared.fault.Rule.{Rule}
 use Rattle.f_lex.specs.declared.fault.Rule.TheVariants as rule
 use Rattle.f_lex.specs.Rules.{tag_number}
+use Rattle.f_lex.specs.declared.token.Spanned.{Spanned}
+use Rattle.f_lex.specs.Lexing.{Lexes, IsLexed}
+use Rattle.f_statement_grammar.specs.Statements.{Statement as Spelled}
+use Rattle.f_statement_read.specs.declared.statement.Statement.{Statement}
+use Rattle.f_statement_read.specs.Views.{view_statement}
+use Rattle.f_file_read.specs.Reading.{read_file}
+use Rattle.f_file_read.specs.Views.{Answers}
+use Rattle.f_file_read.proofs.Whole.{file_broken}
+use Rattle.jf_base.specs.declared.place.Refusal.{Refusal}
+use Rattle.jf_base.specs.declared.place.Refusal.TheVariants as refusal
 use Rattle.c_lines.specs.declared.rule.Rule.{Rule as CRule}
 use Rattle.c_lines.specs.declared.rule.Rule.TheVariants as crule
 use Rattle.c_lines.specs.Rules.{tag_number as c_tag_number}
@@ -23,9 +33,10 @@ use Rattle.source_tokens.specs.declared.source.SourceFile.{SourceFile}
 use Rattle.source_tokens.specs.declared.source.SourceFault.{SourceFault}
 use Rattle.source_tokens.specs.declared.source.SourceFault.TheVariants as fault
 use Rattle.source_tokens.specs.Outside.{LibraryAt, IsUntroubled}
-use Rattle.source_tokens.specs.Sources.{is_fortran_name, count, IsSource}
-use Rattle.source_tokens.specs.Reading.{Told, HasFailed, IsText, IsFortran, IsC, IsRead}
+use Rattle.source_tokens.specs.Sources.{is_fortran_name, Source, count, AreStatements, BreaksFortran, IsSource}
+use Rattle.source_tokens.specs.Reading.{source_fault, Told, HasFailed, IsText, IsParsed, IsFortran, IsC, IsRead}
 use Rattle.source_tokens.proofs.Counting.{lexed_within}
+use Rattle.source_tokens.proofs.Statements.{of_statements, broken_tag}
 
 -- ---- tags
 
@@ -54,6 +65,38 @@ c_rule_tag crule.Error = of_tests tt tt tt tt
 c_rule_tag crule.NoToken = of_tests tt tt tt tt
 c_rule_tag crule.TooMany = of_tests tt tt tt tt
 
+-- ---- Fortran's lexis and statements
+
+abbrev pub views : Vec Statement Global → List Spelled
+views v = map view_statement v.items
+
+module _ (text : List ℕ) (ts : List Spanned) where
+  -- statements were read
+  pub parsed : (v : Vec Statement Global) → Answers views (Ok v) (read_file ts) → AreStatements ts (views v)
+  parsed v e = of_statements ts (views v) e
+
+  -- none were
+  pub unparsed : (r : Refusal) → Answers views (Err r) (read_file ts) → IsParsed text ts (Err (source_fault r))
+  unparsed refusal.Memory e = tt
+  unparsed (refusal.At place tag) e = file_broken ts place tag e
+
+module _ (file before : ℕ) (text : List ℕ) where
+  -- behind the tokens
+  pub of_parsed : (ts : List Spanned) (r : Result SourceFile SourceFault) → Lexes file before text ts → IsParsed text ts r → IsFortran file before text r
+  of_parsed ts (Ok s) lexes (ss, same, are) = (ts, ss, same, lexes, are)
+  of_parsed ts (Err fault.Memory) lexes p = tt
+  of_parsed ts (Err (fault.Library asked)) lexes p = absurd p
+  of_parsed ts (Err (fault.Source place tag)) lexes p = inr (record { tokens = ts; lexes = lexes; broken = p })
+
+  -- without them
+  pub unlexed : (r : Refusal) → IsLexed file before text (Err r) → IsFortran file before text (Err (source_fault r))
+  unlexed refusal.Memory h = tt
+  unlexed (refusal.At place tag) (f, breaks, at, is) = inl (record { fault = f; breaks = breaks; place_is = at; tag_is = is })
+
+  fortran_tag : (place : Place) (tag : Tag) → BreaksFortran file before text place tag → IsTag tag.0
+  fortran_tag place tag (inl h) = (let P : ℕ → Type 0 = IsTag in subst P (sym h.tag_is) (rule_tag h.fault.rule))
+  fortran_tag place tag (inr h) = broken_tag h.tokens place tag h.broken
+
 -- ---- what is found of a text is found of its file
 
 -- what is untroubled twice is untroubled
@@ -79,21 +122,21 @@ module _ (name : List ℕ) (file before : ℕ) (a b : LibraryAt) where
 
   module _ (text : List ℕ) (calm : IsUntroubled a b) (given : Told a (λ files. listed files name ≡ Some text)) (low : before ≤ 262144) where
     pub of_fortran : (r : Result SourceFile SourceFault) → is_fortran_name name ≡ true → IsFortran file before text r → IsRead name file before r a b
-    of_fortran (Ok s) is (ts, same, lexed) =
-        let P : SourceFile → Type 0 = λ s. IsUntroubled a b × (before + count s.tokens ≤ 262144) × Told a (λ files. IsSource files name file before s) in
-        subst P (sym same) (calm, lexed_within file before text ts lexed low, λ files told. record { is_listed = given files told; has_tokens = (is, lexed) })
+    of_fortran (Ok s) is (ts, ss, same, lexed, are) =
+        let P : Source → Type 0 = λ x. IsUntroubled a b × (before + count x.tokens ≤ 262144) × Told a (λ files. IsSource files name file before x) in
+        subst P (sym same) (calm, lexed_within file before text ts lexed low, λ files told. record { is_listed = given files told; has_tokens = (is, lexed, are) })
     of_fortran (Err fault.Memory) is h = tt
     of_fortran (Err (fault.Library asked)) is h = absurd h
     of_fortran (Err (fault.Source place tag)) is h = (
       calm,
-      (let P : ℕ → Type 0 = IsTag in subst P (sym h.tag_is) (rule_tag h.fault.rule)),
+      fortran_tag file before text place tag h,
       λ files told. record { text = text; is_listed = given files told; breaks = inl (is, h) },
     )
 
     module _ (c : LibraryAt) (same : b.listing ≡ a.listing) where
       pub of_c : (r : Result SourceFile SourceFault) → is_fortran_name name ≡ false → IsC file before text r b c → IsRead name file before r a c
       of_c (Ok s) is (calm', (ts, made, fits, expands)) =
-          let P : SourceFile → Type 0 = λ s. IsUntroubled a c × (before + count s.tokens ≤ 262144) × Told a (λ files. IsSource files name file before s) in
+          let P : Source → Type 0 = λ x. IsUntroubled a c × (before + count x.tokens ≤ 262144) × Told a (λ files. IsSource files name file before x) in
           subst P (sym made) (untroubled_then a b c same calm calm', fits, λ files told. record { is_listed = given files told; has_tokens = (is, expands files (same ∙ told)) })
       of_c (Err fault.Memory) is h = tt
       of_c (Err (fault.Library asked)) is (failed, asks) = (

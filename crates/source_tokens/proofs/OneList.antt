@@ -6,11 +6,12 @@ use Rattle.jf_outside.specs.Listing.{listed}
 use Rattle.c_token.specs.declared.token.CSpanned.{CSpanned}
 use Rattle.c_directives.specs.Reads.{Read, At}
 use Rattle.c_pre.specs.Files.{expanded_at}
+use Rattle.f_lex.specs.Lexing.{Lexes}
 use Rattle.f_lex.proofs.WholeLaws as lexis
-use Rattle.source_tokens.specs.declared.source.SourceFile.{SourceFile}
-use Rattle.source_tokens.specs.declared.source.SourceTokens.{SourceTokens}
-use Rattle.source_tokens.specs.declared.source.SourceTokens.TheVariants as tokens
-use Rattle.source_tokens.specs.Sources.{Files, is_fortran_name, count, Expands, HasTokens, IsSource, AreSources, BreaksLexis, BreaksPreprocessing, IsBroken, Reaches}
+use Rattle.f_lex.specs.declared.token.Spanned.{Spanned}
+use Rattle.f_statement_grammar.specs.Statements.{Statement}
+use Rattle.source_tokens.specs.Sources.{Files, is_fortran_name, Tokens, Fortran, C, Source, count, Expands, AreStatements, HasTokens, IsSource, AreSources, BreaksFortran, BreaksPreprocessing, IsBroken, Reaches}
+use Rattle.source_tokens.proofs.Statements.{one_statements, nowhere_broken}
 
 -- as many files given as both readings asked for
 module _ (files : Files) (file before : ℕ) (text : List ℕ) where
@@ -32,17 +33,21 @@ module _ (files : Files) (file before : ℕ) (text : List ℕ) where
       cc
 
 module _ (files : Files) (name : List ℕ) (file before : ℕ) (text : List ℕ) where
-  one_tokens : (ts us : SourceTokens) → HasTokens files name file before text ts → HasTokens files name file before text us → ts ≡ us
-  one_tokens (tokens.Fortran ts) (tokens.Fortran us) p q = ap tokens.Fortran (lexis.one_list file before text ts us p.1 q.1)
-  one_tokens (tokens.Fortran ts) (tokens.C us) p q = let e : true ≡ false = sym p.0 ∙ q.0 in absurd (cc)
-  one_tokens (tokens.C ts) (tokens.Fortran us) p q = let e : true ≡ false = sym q.0 ∙ p.0 in absurd (cc)
-  one_tokens (tokens.C ts) (tokens.C us) p q = ap tokens.C (one_expansion files file before text ts us p.1 q.1)
+  one_tokens : (ts us : Tokens) → HasTokens files name file before text ts → HasTokens files name file before text us → ts ≡ us
+  one_tokens (Fortran ts ss) (Fortran us qs) p q =
+      let same : ts ≡ us = lexis.one_list file before text ts us p.1 q.1 in
+      let P : List Spanned → Type 0 = λ l. AreStatements l ss in
+      let statements : ss ≡ qs = one_statements us ss qs (subst P same p.2) q.2 in
+      λ i. Fortran (same i) (statements i)
+  one_tokens (Fortran ts ss) (C us) p q = let e : true ≡ false = sym p.0 ∙ q.0 in absurd (cc)
+  one_tokens (C ts) (Fortran us qs) p q = let e : true ≡ false = sym q.0 ∙ p.0 in absurd (cc)
+  one_tokens (C ts) (C us) p q = ap C (one_expansion files file before text ts us p.1 q.1)
 
 module _ (files : Files) where
   same_text : (name : List ℕ) (text other : List ℕ) → listed files name ≡ Some text → listed files name ≡ Some other → text ≡ other
   same_text name text other p q = let e : Some text ≡ Some other = sym p ∙ q in cc
 
-  one_source : (name : List ℕ) (file before : ℕ) (s t : SourceFile) → IsSource files name file before s → IsSource files name file before t → s ≡ t
+  one_source : (name : List ℕ) (file before : ℕ) (s t : Source) → IsSource files name file before s → IsSource files name file before t → s ≡ t
   one_source name file before s t p q =
       let text : s.text ≡ t.text = same_text name s.text t.text p.is_listed q.is_listed in
       let P : List ℕ → Type 0 = λ x. HasTokens files name file before x s.tokens in
@@ -50,7 +55,7 @@ module _ (files : Files) where
       λ i. record { text = text i; tokens = tokens i }
 
   -- files have one list of sources
-  pub one_list : (file before : ℕ) (names : List (List ℕ)) (ss ts : List SourceFile) → AreSources files file before names ss → AreSources files file before names ts → ss ≡ ts
+  pub one_list : (file before : ℕ) (names : List (List ℕ)) (ss ts : List Source) → AreSources files file before names ss → AreSources files file before names ts → ss ≡ ts
   one_list file before [] [] [] p q = refl
   one_list file before [] [] (t ∷ ts) p q = absurd q
   one_list file before [] (s ∷ ss) ts p q = absurd p
@@ -58,31 +63,38 @@ module _ (files : Files) where
   one_list file before (name ∷ names) (s ∷ ss) [] p q = absurd q
   one_list file before (name ∷ names) (s ∷ ss) (t ∷ ts) p q =
       let one : s ≡ t = one_source name file before s t p.0 q.0 in
-      let P : SourceFile → Type 0 = λ x. AreSources files (file + 1) (before + count x.tokens) names ss in
+      let P : Source → Type 0 = λ x. AreSources files (file + 1) (before + count x.tokens) names ss in
       let rest : ss ≡ ts = one_list (file + 1) (before + count t.tokens) names ss ts (subst P one p.1) q.1 in
       λ i. one i ∷ rest i
 
   module _ (place : Place) (tag : Tag) (name : List ℕ) (file before : ℕ) (text : List ℕ) where
     abbrev pub Broken : Type 0
-    Broken = ((is_fortran_name name ≡ true) × BreaksLexis file before text place tag) ⊎ ((is_fortran_name name ≡ false) × BreaksPreprocessing files file before text place tag)
+    Broken = ((is_fortran_name name ≡ true) × BreaksFortran file before text place tag) ⊎ ((is_fortran_name name ≡ false) × BreaksPreprocessing files file before text place tag)
 
-    beside : (ts : SourceTokens) → HasTokens files name file before text ts → Broken → ⊥
-    beside (tokens.Fortran ts) (is, lexes) (inl (_, broken)) = lexis.not_both file before text ts broken.fault lexes broken.breaks
-    beside (tokens.Fortran ts) (is, lexes) (inr (not, _)) = let e : true ≡ false = sym is ∙ not in absurd (cc)
-    beside (tokens.C ts) (is, expands) (inl (not, _)) = let e : true ≡ false = sym not ∙ is in absurd (cc)
-    beside (tokens.C ts) (is, expands) (inr (_, broken)) = none_beside files file before text ts place tag expands broken
+    fortran_beside : (ts : List Spanned) (ss : List Statement) → Lexes file before text ts → AreStatements ts ss → BreaksFortran file before text place tag → ⊥
+    fortran_beside ts ss lexes are (inl broken) = lexis.not_both file before text ts broken.fault lexes broken.breaks
+    fortran_beside ts ss lexes are (inr broken) =
+        let same : ts ≡ broken.tokens = lexis.one_list file before text ts broken.tokens lexes broken.lexes in
+        let P : List Spanned → Type 0 = λ l. AreStatements l ss in
+        nowhere_broken broken.tokens ss (subst P same are) place tag broken.broken
 
-  not_both : (place : Place) (tag : Tag) (name : List ℕ) (file before : ℕ) (s : SourceFile) → IsSource files name file before s → IsBroken files place tag name file before → ⊥
+    beside : (ts : Tokens) → HasTokens files name file before text ts → Broken → ⊥
+    beside (Fortran ts ss) (is, lexes, are) (inl (_, broken)) = fortran_beside ts ss lexes are broken
+    beside (Fortran ts ss) (is, lexes, are) (inr (not, _)) = let e : true ≡ false = sym is ∙ not in absurd (cc)
+    beside (C ts) (is, expands) (inl (not, _)) = let e : true ≡ false = sym not ∙ is in absurd (cc)
+    beside (C ts) (is, expands) (inr (_, broken)) = none_beside files file before text ts place tag expands broken
+
+  not_both : (place : Place) (tag : Tag) (name : List ℕ) (file before : ℕ) (s : Source) → IsSource files name file before s → IsBroken files place tag name file before → ⊥
   not_both place tag name file before s source b =
       let P : List ℕ → Type 0 = λ x. Broken place tag name file before x in
       beside place tag name file before s.text s.tokens source.has_tokens (subst P (same_text name b.text s.text b.is_listed source.is_listed) b.breaks)
 
   -- files that have tokens break no rule
-  pub none_broken : (place : Place) (tag : Tag) (file before : ℕ) (names : List (List ℕ)) (ss : List SourceFile) → AreSources files file before names ss → Reaches files (IsBroken files place tag) file before names → ⊥
+  pub none_broken : (place : Place) (tag : Tag) (file before : ℕ) (names : List (List ℕ)) (ss : List Source) → AreSources files file before names ss → Reaches files (IsBroken files place tag) file before names → ⊥
   none_broken place tag file before [] ss p r = r
   none_broken place tag file before (name ∷ names) [] p r = p
   none_broken place tag file before (name ∷ names) (s ∷ ss) p (inl b) = not_both place tag name file before s p.0 b
   none_broken place tag file before (name ∷ names) (s ∷ ss) p (inr (t, source, r)) =
       let one : t ≡ s = one_source name file before t s source p.0 in
-      let P : SourceFile → Type 0 = λ x. Reaches files (IsBroken files place tag) (file + 1) (before + count x.tokens) names in
+      let P : Source → Type 0 = λ x. Reaches files (IsBroken files place tag) (file + 1) (before + count x.tokens) names in
       none_broken place tag (file + 1) (before + count s.tokens) names ss p.1 (subst P one r)

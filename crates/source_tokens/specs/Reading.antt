@@ -1,16 +1,22 @@
 -- What reading files answers.
-use Rattle.std.specs.Prelude.{◌≡◌, ℕ, ◌+◌, ◌≤◌, List, length, Some, IsSome, Result, Ok, Err}
+use Rattle.std.specs.Prelude.{◌≡◌, ℕ, ◌+◌, ◌≤◌, List, map, length, Some, IsSome, Result, Ok, Err}
 use Rattle.std.specs.declared.vec.Vec.{Vec}
 use Rattle.std.specs.declared.alloc.Global.{Global}
 use Rattle.jf_base.specs.Tags.{IsTag}
 use Rattle.jf_outside.specs.Count.{Rose}
 use Rattle.jf_outside.specs.Listing.{listed}
+use Rattle.f_lex.specs.declared.token.Spanned.{Spanned}
 use Rattle.f_lex.specs.Lexing.{Lexes}
+use Rattle.f_statement_read.specs.Views.{view_statement}
+use Rattle.f_file_read.specs.BrokenAt.{BrokenAt}
+use Rattle.jf_base.specs.declared.place.Refusal.{Refusal}
+use Rattle.jf_base.specs.declared.place.Refusal.TheVariants as refusal
 use Rattle.c_directives.specs.Reads.{Asks}
 use Rattle.c_pre.specs.Files.{expanded_at}
 use Rattle.source_tokens.specs.Outside.{LibraryAt, IsUntroubled}
-use Rattle.source_tokens.specs.Sources.{Files, count, Expands, IsSource, AreSources, BreaksLexis, BreaksPreprocessing, IsBroken, IsDue, Reaches}
+use Rattle.source_tokens.specs.Sources.{Files, Tokens, Fortran, C, Source, count, Expands, AreStatements, IsSource, AreSources, BreaksFortran, BreaksPreprocessing, IsBroken, IsDue, Reaches}
 use Rattle.source_tokens.specs.declared.source.SourceFile.{SourceFile}
+use Rattle.source_tokens.specs.declared.source.SourceTokens.{SourceTokens}
 use Rattle.source_tokens.specs.declared.source.SourceTokens.TheVariants as tokens
 use Rattle.source_tokens.specs.declared.source.SourceFault.{SourceFault}
 use Rattle.source_tokens.specs.declared.source.SourceFault.TheVariants as fault
@@ -26,6 +32,19 @@ pub record HasFailed (asked : List ℕ) (before after : LibraryAt) : Type 0 wher
 
 -- ---- one file
 
+-- a file's tokens, and its statements without their places
+abbrev pub seen_tokens : SourceTokens → Tokens
+seen_tokens (tokens.Fortran ts ss) = Fortran ts (map view_statement ss)
+seen_tokens (tokens.C ts) = C ts
+
+abbrev pub seen : SourceFile → Source
+seen s = record { text = s.text; tokens = seen_tokens s.tokens }
+
+-- the same refusal as a fault
+abbrev pub source_fault : Refusal → SourceFault
+source_fault refusal.Memory = fault.Memory
+source_fault (refusal.At place tag) = fault.Source place tag
+
 -- the fault tells this name, or memory was wanting
 abbrev pub IsNamed : List ℕ → SourceFault → Type 0
 IsNamed name fault.Memory = Unit {0}
@@ -39,23 +58,30 @@ IsText name (Err fault.Memory) before after = Unit {0}
 IsText name (Err (fault.Library asked)) before after = (asked ≡ name) × HasFailed name before after
 IsText name (Err (fault.Source place tag)) before after = ⊥
 
--- a Fortran text: its tokens, or the first broken rule
+-- the tokens of a Fortran text: its statements, or the first rule of statements that is broken
+abbrev pub IsParsed : List ℕ → List Spanned → Result SourceFile SourceFault → Type 0
+IsParsed text ts (Ok s) = (ss : _) × (seen s ≡ record { text = text; tokens = Fortran ts ss }) × AreStatements ts ss
+IsParsed text ts (Err fault.Memory) = Unit {0}
+IsParsed text ts (Err (fault.Library asked)) = ⊥
+IsParsed text ts (Err (fault.Source place tag)) = BrokenAt ts place tag
+
+-- a Fortran text: its tokens and statements, or the first broken rule
 abbrev pub IsFortran : ℕ → ℕ → List ℕ → Result SourceFile SourceFault → Type 0
-IsFortran file before text (Ok s) = (ts : _) × (s ≡ record { text = text; tokens = tokens.Fortran ts }) × Lexes file before text ts
+IsFortran file before text (Ok s) = (ts : _) × (ss : _) × (seen s ≡ record { text = text; tokens = Fortran ts ss }) × Lexes file before text ts × AreStatements ts ss
 IsFortran file before text (Err fault.Memory) = Unit {0}
 IsFortran file before text (Err (fault.Library asked)) = ⊥
-IsFortran file before text (Err (fault.Source place tag)) = BreaksLexis file before text place tag
+IsFortran file before text (Err (fault.Source place tag)) = BreaksFortran file before text place tag
 
 -- a C text: its tokens, the first broken rule, or a header that the library didn't give
 abbrev pub IsC : ℕ → ℕ → List ℕ → Result SourceFile SourceFault → LibraryAt → LibraryAt → Type 0
-IsC file before text (Ok s) old new = IsUntroubled old new × ((ts : _) × (s ≡ record { text = text; tokens = tokens.C ts }) × (before + length ts ≤ 262144) × Told old (λ files. Expands files file before text ts))
+IsC file before text (Ok s) old new = IsUntroubled old new × ((ts : _) × (seen s ≡ record { text = text; tokens = C ts }) × (before + length ts ≤ 262144) × Told old (λ files. Expands files file before text ts))
 IsC file before text (Err fault.Memory) old new = Unit {0}
 IsC file before text (Err (fault.Library asked)) old new = HasFailed asked old new × Told old (λ files. (given : ℕ) × (expanded_at files file before text given ≡ Err (Asks asked)))
 IsC file before text (Err (fault.Source place tag)) old new = IsUntroubled old new × IsTag tag.0 × Told old (λ files. BreaksPreprocessing files file before text place tag)
 
 -- the file of this name and number, where the files before have so many tokens
 abbrev pub IsRead : List ℕ → ℕ → ℕ → Result SourceFile SourceFault → LibraryAt → LibraryAt → Type 0
-IsRead name file before (Ok s) old new = IsUntroubled old new × (before + count s.tokens ≤ 262144) × Told old (λ files. IsSource files name file before s)
+IsRead name file before (Ok s) old new = IsUntroubled old new × (before + count (seen s).tokens ≤ 262144) × Told old (λ files. IsSource files name file before (seen s))
 IsRead name file before (Err fault.Memory) old new = Unit {0}
 IsRead name file before (Err (fault.Library asked)) old new = HasFailed asked old new × Told old (λ files. IsDue files asked name file before)
 IsRead name file before (Err (fault.Source place tag)) old new = IsUntroubled old new × IsTag tag.0 × Told old (λ files. IsBroken files place tag name file before)
@@ -63,7 +89,7 @@ IsRead name file before (Err (fault.Source place tag)) old new = IsUntroubled ol
 -- ---- all files
 
 abbrev pub AreRead : List (List ℕ) → Result (Vec SourceFile Global) SourceFault → LibraryAt → LibraryAt → Type 0
-AreRead names (Ok sources) old new = IsUntroubled old new × (length sources.items ≡ length names) × Told old (λ files. AreSources files 0 0 names sources.items)
+AreRead names (Ok sources) old new = IsUntroubled old new × (length sources.items ≡ length names) × Told old (λ files. AreSources files 0 0 names (map seen sources.items))
 AreRead names (Err fault.Memory) old new = Unit {0}
 AreRead names (Err (fault.Library asked)) old new = HasFailed asked old new × Told old (λ files. Reaches files (IsDue files asked) 0 0 names)
 AreRead names (Err (fault.Source place tag)) old new = IsUntroubled old new × IsTag tag.0 × Told old (λ files. Reaches files (IsBroken files place tag) 0 0 names)

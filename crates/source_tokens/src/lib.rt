@@ -1,4 +1,5 @@
-//! The files of a program, each read from the library and cut into tokens: Fortran's by its free source form, C's behind its preprocessor.
+//! The files of a program, each read from the library up to its tokens, and to its statements where it is in Fortran: Fortran's by its free source form and
+//! its grammar, C's behind its preprocessor.
 #![tactic(auto)]
 
 mod files;

@@ -1,36 +1,42 @@
 //! One file.
 ghost use Rattle.std.specs.Prelude.{◌≡◌, ◌≤◌};
 ghost use Rattle.source_tokens.specs.Sources.{count, is_fortran_name};
-ghost use Rattle.source_tokens.specs.Reading.{IsNamed, IsText, IsFortran, IsC, IsRead};
+ghost use Rattle.source_tokens.specs.Reading.{seen_tokens, source_fault, IsNamed, IsText, IsParsed, IsFortran, IsC, IsRead};
 
 use c_pre::{PreFault, expand};
 use c_token::CSpanned;
+use f_file_read::read_statements;
 use f_lex::{Spanned, lex};
+use f_statement_read::Statement;
 use jf_base::{List, Place, Refusal, Tag, Text};
 use jf_outside::{Library, LibraryFault};
 use std::alloc::Global;
 
-/// The tokens of a file: those of Fortran's free source form, or those of C behind directives, macro replacement and headers.
-#[derive(Drop, Debug)]
+/// The tokens of a file: those of Fortran's free source form with the statements that they are, or those of C behind directives, macro replacement and
+/// headers.
+#[derive(Drop)]
 pub enum SourceTokens {
-    Fortran(List<Spanned>),
+    Fortran {
+        tokens: List<Spanned>,
+        statements: List<Statement>,
+    },
     C(List<CSpanned>),
 }
 
 impl SourceTokens {
     /// How many tokens there are, where the end of a Fortran statement is one.
     pub fn count(&self) -> usize
-        ensures { result ≡ count self.now }
+        ensures { result ≡ count (seen_tokens self.now) }
     {
         match self {
-            SourceTokens::Fortran(tokens) => tokens.len(),
+            SourceTokens::Fortran { tokens, .. } => tokens.len(),
             SourceTokens::C(tokens) => tokens.len(),
         }
     }
 }
 
 /// A file's bytes and its tokens.
-#[derive(Drop, Debug)]
+#[derive(Drop)]
 pub struct SourceFile {
     pub text: List<u8>,
     pub tokens: SourceTokens,
@@ -78,6 +84,35 @@ fn read_text<L: Library>(
     }
 }
 
+fn source_fault(refusal: Refusal) -> SourceFault
+    ensures { result ≡ source_fault refusal }
+{
+    match refusal {
+        Refusal::Memory => SourceFault::Memory,
+        Refusal::At { place, tag } => SourceFault::Source { place, tag },
+    }
+}
+
+// The file of these bytes and tokens in Fortran.
+fn with_statements(
+    alloc: Global,
+    text: List<u8>,
+    tokens: Vec<Spanned>,
+) -> Result<SourceFile, SourceFault>
+    ensures { IsParsed text tokens.items result }
+{
+    match read_statements(alloc, tokens.as_slice()) {
+        Ok(statements) => Ok(SourceFile {
+            text,
+            tokens: SourceTokens::Fortran {
+                tokens: List(tokens),
+                statements: List(statements),
+            },
+        }),
+        Err(refusal) => Err(source_fault(refusal)),
+    }
+}
+
 // The file of these bytes in Fortran.
 fn fortran_source(
     alloc: Global,
@@ -89,12 +124,8 @@ fn fortran_source(
     ensures { IsFortran file before text result }
 {
     match lex(alloc, file, before, text.as_slice()) {
-        Ok(tokens) => Ok(SourceFile {
-            text,
-            tokens: SourceTokens::Fortran(List(tokens)),
-        }),
-        Err(Refusal::Memory) => Err(SourceFault::Memory),
-        Err(Refusal::At { place, tag }) => Err(SourceFault::Source { place, tag }),
+        Ok(tokens) => with_statements(alloc, text, tokens),
+        Err(refusal) => Err(source_fault(refusal)),
     }
 }
 

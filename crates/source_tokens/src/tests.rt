@@ -17,13 +17,16 @@ fn library(
     Ok(MemoryLibrary::new(list, failing.to_vec(alloc)?))
 }
 
+// The language and the number of tokens, and behind a slash that of a Fortran file's statements.
 fn put_count(alloc: Global, out: &mut Vec<u8>, tokens: &SourceTokens) -> Result<(), AllocError> {
-    let kind = match tokens {
-        SourceTokens::Fortran(_) => "F",
-        SourceTokens::C(_) => "C",
-    };
     let number = tokens.count();
-    let text = format!(in alloc; "{kind}{number} ")?;
+    let text = match tokens {
+        SourceTokens::Fortran { statements, .. } => {
+            let statements = statements.len();
+            format!(in alloc; "F{number}/{statements} ")?
+        }
+        SourceTokens::C(_) => format!(in alloc; "C{number} ")?,
+    };
     out.extend_from_slice(text.as_str().as_bytes())
 }
 
@@ -42,7 +45,7 @@ fn put_fault(alloc: Global, out: &mut Vec<u8>, fault: &SourceFault) -> Result<()
     }
 }
 
-// The language and the number of tokens of each file, or the fault.
+// The language, the number of tokens and that of statements of each file, or the fault.
 fn shown(
     alloc: Global,
     names: &[&str],
@@ -71,6 +74,9 @@ fn shown(
 
 const PROGRAM: &[u8] = b"program p\nimplicit none\nend program\n";
 
+// A program whose third statement has no place there.
+const LATE_USE: &[u8] = b"program p\nimplicit none\nuse m\nend program\n";
+
 #[test]
 fn each_file_has_its_tokens(rt: HostRuntime) -> Result<(), Fail> {
     let alloc = rt.alloc();
@@ -85,7 +91,7 @@ fn each_file_has_its_tokens(rt: HostRuntime) -> Result<(), Fail> {
     ];
     assert_eq!(rt;
         shown(alloc, &["p.f90", "q.c", "r.f90"], &files, &[])?.as_slice(),
-        b"F9 C18 F0 ".as_slice()
+        b"F9/3 C18 F0/0 ".as_slice()
     );
     assert_eq!(rt;
         shown(alloc, &["q.c"], &files, &[])?.as_slice(),
@@ -121,6 +127,93 @@ fn the_first_broken_rule_in_the_order_of_the_files(rt: HostRuntime) -> Result<()
         shown(alloc, &["p.f90", "i.c"], &files, &[])?.as_slice(),
         b"1:2:1: 506".as_slice()
     );
+    Ok(())
+}
+
+#[test]
+fn statements_are_told_by_their_places(rt: HostRuntime) -> Result<(), Fail> {
+    let alloc = rt.alloc();
+    let files = [
+        ("late.f90", LATE_USE),
+        ("form.f90", b"program p\ni = \nend\n".as_slice()),
+        ("open.f90", b"\n  program p\nimplicit none\n".as_slice()),
+        ("last.f90", b"program p; end; module m; contains".as_slice()),
+        (
+            "line.f90",
+            b"program p; implicit none; use m; end".as_slice(),
+        ),
+    ];
+    for (name, told) in [
+        ("late.f90", b"0:3:1: 202".as_slice()),
+        ("form.f90", b"0:2:1: 201".as_slice()),
+        ("open.f90", b"0:2:3: 202".as_slice()),
+        ("last.f90", b"0:1:17: 202".as_slice()),
+        ("line.f90", b"0:1:27: 202".as_slice()),
+    ] {
+        assert_eq!(rt; shown(alloc, &[name], &files, &[])?.as_slice(), told);
+    }
+    Ok(())
+}
+
+// A program that prints a number in so many parentheses.
+fn nested(alloc: Global, parentheses: u32) -> Result<Vec<u8>, AllocError> {
+    let mut text = b"program p\nprint *, ".to_vec(alloc)?;
+    for _ in 0..parentheses {
+        text.push(b'(')?;
+    }
+    text.push(b'1')?;
+    for _ in 0..parentheses {
+        text.push(b')')?;
+    }
+    text.extend_from_slice(b"\nend\n")?;
+    Ok(text)
+}
+
+#[test]
+fn parentheses_nest_up_to_their_limit(rt: HostRuntime) -> Result<(), Fail> {
+    let alloc = rt.alloc();
+    let fits = nested(alloc, 64)?;
+    let deeper = nested(alloc, 65)?;
+    let files = [("p.f90", fits.as_slice()), ("q.f90", deeper.as_slice())];
+    assert_eq!(rt;
+        shown(alloc, &["p.f90", "q.f90"], &files, &[])?.as_slice(),
+        b"1:2:74: 203".as_slice()
+    );
+    assert_eq!(rt;
+        shown(alloc, &["p.f90"], &files, &[])?.as_slice(),
+        b"F138/3 ".as_slice()
+    );
+    Ok(())
+}
+
+// Each file is read up to its statements before the next is asked for; in one file source form stands before statements.
+#[test]
+fn statements_are_read_file_by_file(rt: HostRuntime) -> Result<(), Fail> {
+    let alloc = rt.alloc();
+    let files = [
+        ("p.f90", PROGRAM),
+        ("late.f90", LATE_USE),
+        (
+            "open.f90",
+            b"program p\nprint *, 'a\nend program\n".as_slice(),
+        ),
+        ("both.f90", b"use m\nprint *, 'a\n".as_slice()),
+        ("if.c", b"int a;\n#if 1\n".as_slice()),
+    ];
+    for (first, second, told) in [
+        ("late.f90", "open.f90", b"0:3:1: 202".as_slice()),
+        ("late.f90", "if.c", b"0:3:1: 202".as_slice()),
+        ("late.f90", "absent.c", b"0:3:1: 202".as_slice()),
+        ("open.f90", "late.f90", b"0:2:10: 104".as_slice()),
+        ("if.c", "late.f90", b"0:2:1: 504".as_slice()),
+        ("p.f90", "late.f90", b"1:3:1: 202".as_slice()),
+        ("p.f90", "both.f90", b"1:2:10: 104".as_slice()),
+    ] {
+        assert_eq!(rt;
+            shown(alloc, &[first, second], &files, &[])?.as_slice(),
+            told
+        );
+    }
     Ok(())
 }
 

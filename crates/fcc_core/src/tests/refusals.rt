@@ -2,7 +2,7 @@ use super::{C, FORTRAN, Failing, NOTHING_FAILS, check, pair, ran};
 use std::test::Fail;
 
 const MODULE: &str =
-    "module one\nuse iso_c_binding\nimplicit none\ninterface\nsubroutine put(c) bind(c)\nimport\ninteger(c_int), value :: c\nend subroutine\nend interface\ncall put(65_c_int)\nend program\n";
+    "module one\nuse iso_c_binding\nimplicit none\ncontains\nsubroutine put(c) bind(c)\ninteger(c_int), value :: c\nend subroutine\nend module\n";
 
 const GET: &str = "#include <stdio.h>\nvoid get(int c){putchar(c);}\n";
 
@@ -87,10 +87,24 @@ fn the_first_text_of_another_form_is_told(rt: HostRuntime) -> Result<(), Fail> {
 
 const OPEN_TEXT: &str = "program one\nprint *, 'a\nend program\n";
 
-const TEXTS: [(&str, &str); 8] = [
+// A program whose third statement has no place there, one whose second has no form, one without its end, and one with 65 parentheses in one another.
+const LATE_USE: &str = "program p\nimplicit none\nuse m\nend program\n";
+
+const NO_FORM: &str = "program p\ni = \nend program\n";
+
+const UNENDED: &str = "\nprogram p\nimplicit none\n";
+
+const DEEP: &str =
+    "program p\nprint *, (((((((((((((((((((((((((((((((((((((((((((((((((((((((((((((((((1)))))))))))))))))))))))))))))))))))))))))))))))))))))))))))))))))\nend\n";
+
+const TEXTS: [(&str, &str); 12] = [
     ("p.f90", FORTRAN),
     ("q.c", C),
     ("open.f90", OPEN_TEXT),
+    ("late.f90", LATE_USE),
+    ("form.f90", NO_FORM),
+    ("unended.f90", UNENDED),
+    ("deep.f90", DEEP),
     ("if.c", "int a;\n#if 1\n"),
     ("function.c", "#define F(x) x\n"),
     ("absent.c", "#include \"absent.h\"\n#if 1\n"),
@@ -99,7 +113,7 @@ const TEXTS: [(&str, &str); 8] = [
 ];
 
 // The words, the status, and the first file that isn't given or the first broken rule, in the order in which the texts are read.
-const BROKEN: [(&str, u8, &str); 10] = [
+const BROKEN: [(&str, u8, &str); 20] = [
     ("run open.f90 q.c", 202, "open.f90:2: L04\n"),
     ("run p.f90 if.c", 202, "if.c:2: P04\n"),
     ("run p.f90 function.c", 202, "function.c:1: P06\n"),
@@ -110,6 +124,16 @@ const BROKEN: [(&str, u8, &str); 10] = [
     ("run if.c", 202, "if.c:2: P04\n"),
     ("run open.f90 y.c", 202, "open.f90:2: L04\n"),
     ("run q.c p.f90", 202, "q.c:1: X01\n"),
+    ("run late.f90 q.c", 202, "late.f90:3: S02\n"),
+    ("run form.f90 q.c", 202, "form.f90:2: S01\n"),
+    ("run unended.f90 q.c", 202, "unended.f90:2: S02\n"),
+    ("run deep.f90 q.c", 202, "deep.f90:2: S03\n"),
+    ("run late.f90 open.f90", 202, "late.f90:3: S02\n"),
+    ("run late.f90 if.c", 202, "late.f90:3: S02\n"),
+    ("run late.f90 y.c", 202, "late.f90:3: S02\n"),
+    ("run open.f90 late.f90", 202, "open.f90:2: L04\n"),
+    ("run if.c late.f90", 202, "if.c:2: P04\n"),
+    ("run q.c p.f90 late.f90", 202, "late.f90:3: S02\n"),
 ];
 
 #[test]
@@ -118,6 +142,14 @@ fn the_first_broken_rule_is_told(rt: HostRuntime) -> Result<(), Fail> {
         let run = ran(rt.alloc(), line, &TEXTS, NOTHING_FAILS)?;
         check(&rt, &run, line, status, b"", told, false);
     }
+    Ok(())
+}
+
+#[test]
+fn a_misplaced_statement_is_told_by_its_line(rt: HostRuntime) -> Result<(), Fail> {
+    let files = [("p.f90", "program p; implicit none; use m; end program\n")];
+    let run = ran(rt.alloc(), "run p.f90", &files, NOTHING_FAILS)?;
+    check(&rt, &run, "late USE", 202, b"", "p.f90:1: S02\n", false);
     Ok(())
 }
 

@@ -1,4 +1,6 @@
-use Rattle.std.proofs.Common.{rules, ◌≡◌, ◌+◌, [], ◌∷◌, ◌++◌, length, length-append, refl, arith, ap, ◌∙◌}
+use Rattle.std.proofs.Common.{rules, ◌≡◌, ◌+◌, [], ◌∷◌, ◌++◌, map, length, length-append, refl, arith, ap, ◌∙◌}
+use Rattle.std.proofs.lemmas.List.{map-append}
+use Rattle.source_tokens.specs.Reading.{seen}
 use Rattle.source_tokens.proofs.One.{untroubled_then}
 use Rattle.source_tokens.proofs.Many.{goes_on, stops, ends}
 use Rattle.source_tokens.proofs.files.read_sources.Goals as goal
@@ -6,7 +8,7 @@ use Rattle.source_tokens.proofs.files.read_sources.Goals as goal
 pub returns-in-Err-clause-read : goal.returns-in-Err-clause-read
 returns-in-Err-clause-read g c =
     let i = c.loop-name.invariant in
-    stops c.args.names.now c.loop-name.rest.now c.in-Some.others.now c.in-Some.name.now c.loop-name.file c.loop-name.before c.loop-name.sources.items _ _ _
+    stops c.args.names.now c.loop-name.rest.now c.in-Some.others.now c.in-Some.name.now c.loop-name.file c.loop-name.before (map seen c.loop-name.sources.items) _ _ _
     i.listing i.untroubled i.goes c.in-Some.ensures.cases.0 c.in-Err.fault c.in-Err.ensures.read
 
 pub loop-name-preserved : goal.loop-name-preserved
@@ -22,8 +24,9 @@ loop-name-preserved g c =
       counted = (let long = ap length pushed ∙ length-append c.loop-name.sources.items (c.in-Ok.source ∷ []) in omega (arith, i.counted, long));
       room = (let count = c.count.ensures in omega (arith, read.1, count));
       goes = λ files told.
-          goes_on files c.args.names.now c.loop-name.rest.now c.in-Some.others.now c.in-Some.name.now c.loop-name.file _ c.loop-name.before _ c.loop-name.sources.items _ c.in-Ok.source
-          (i.goes files told) first (read.2 files (i.listing ∙ told)) refl (ap (λ n. c.loop-name.before + n) c.count.ensures) pushed;
+          goes_on files c.args.names.now c.loop-name.rest.now c.in-Some.others.now c.in-Some.name.now c.loop-name.file _ c.loop-name.before _ (map seen c.loop-name.sources.items) _ (seen c.in-Ok.source)
+          (i.goes files told) first (read.2 files (i.listing ∙ told)) refl (ap (λ n. c.loop-name.before + n) c.count.ensures)
+          (ap (map seen) pushed ∙ map-append seen c.loop-name.sources.items (c.in-Ok.source ∷ []));
     }
 
 pub returns-clause-read : goal.returns-clause-read
@@ -32,5 +35,5 @@ returns-clause-read g c =
     let none = c.in_default.ensures.cases in (
       i.untroubled,
       omega (arith, i.numbered, i.counted, none),
-      λ files told. ends files c.args.names.now c.loop-name.rest.now c.loop-name.file c.loop-name.before c.loop-name.sources.items (i.goes files told) none,
+      λ files told. ends files c.args.names.now c.loop-name.rest.now c.loop-name.file c.loop-name.before (map seen c.loop-name.sources.items) (i.goes files told) none,
     )

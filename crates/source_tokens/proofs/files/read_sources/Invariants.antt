@@ -1,6 +1,7 @@
-use Rattle.std.proofs.Common.{◌≡◌, ◌≤◌, ◌+◌, Some, length}
+use Rattle.std.proofs.Common.{◌≡◌, ◌≤◌, ◌+◌, Some, map, length}
 use Rattle.source_tokens.specs.Outside.{IsUntroubled}
 use Rattle.source_tokens.specs.Sources.{Files}
+use Rattle.source_tokens.specs.Reading.{seen}
 use Rattle.source_tokens.proofs.Many.{GoesOn}
 use Rattle.source_tokens.proofs.files.read_sources.Given as goal
 
@@ -13,7 +14,7 @@ invariant-loop-name g l = record {
   numbered : l.file + length l.rest ≡ length l.names;
   counted : length l.sources.items ≡ l.file;
   room : l.before ≤ 262144;
-  goes : (files : Files) → g.L.Library.files l.fn.library ≡ Some files → GoesOn files l.names l.rest l.file l.before l.sources.items;
+  goes : (files : Files) → g.L.Library.files l.fn.library ≡ Some files → GoesOn files l.names l.rest l.file l.before (map seen l.sources.items);
 }
 
 abbrev pub decreases-loop-name : goal.decreases-loop-name
