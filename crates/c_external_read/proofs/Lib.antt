@@ -1,0 +1,5 @@
+pub mod Counting
+pub mod Entries
+pub mod Files
+pub mod Kept
+pub mod Turns
