@@ -1,8 +1,7 @@
 //! The names in type declarations, USE and IMPORT. What stands last is put first.
 
-ghost use Rattle.std.specs.Prelude.{◌≡◌, ◌∷◌, OnOk, map, true, false};
-ghost use Rattle.f_items.specs.declared.item.Item.TheVariants.{Takes};
-ghost use Rattle.f_unit_items.specs.Fronts.{name_of, if_there, each};
+ghost use Rattle.std.specs.Prelude.{◌≡◌, OnOk, map};
+ghost use Rattle.f_unit_items.specs.Fronts.{if_there, each};
 ghost use Rattle.f_unit_items.specs.Declarations.{access_of, form_access, access_among, bind_list, dimensions, initial_value, entity, rename, only_name, is_only, use_list, imported, imported_names};
 
 use crate::action::put_if_there;

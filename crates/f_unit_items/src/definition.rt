@@ -1,6 +1,6 @@
 //! The names in definitions of derived types, in access statements and in declarations of procedure pointers. What stands last is put first.
 
-ghost use Rattle.std.specs.Prelude.{◌≡◌, ◌∷◌, OnOk, map, None};
+ghost use Rattle.std.specs.Prelude.{◌≡◌, OnOk, map};
 ghost use Rattle.f_unit_items.specs.Fronts.{each};
 ghost use Rattle.f_unit_items.specs.Declarations.{type_form_access, type_access, pointer_form_access, pointer_access, field, accessed, accessed_names, procedure_pointer};
 

@@ -1,8 +1,7 @@
 //! The names of procedures and program units. What stands last is put first.
 
-ghost use Rattle.std.specs.Prelude.{◌≡◌, ◌++◌, OnOk, IfOk, map, reverse};
-ghost use Rattle.f_scope.specs.BuiltIn.{before_program};
-ghost use Rattle.f_unit_items.specs.Fronts.{if_there, each};
+ghost use Rattle.std.specs.Prelude.{◌≡◌, ◌++◌, OnOk, IfOk};
+ghost use Rattle.f_unit_items.specs.Fronts.{if_there};
 ghost use Rattle.f_unit_items.specs.Units.{untyped, external_procedure, contained_procedure, contained, unit_name, program, module_unit, items_of};
 
 use crate::head::{head_place, put_head};
