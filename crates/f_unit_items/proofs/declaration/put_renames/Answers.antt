@@ -1,0 +1,15 @@
+use Rattle.std.proofs.Common.{◌≡◌, ◌<◌, ◌+◌, ◌-◌, get_or, length, sym, ◌∙◌, arith}
+use Rattle.f_unit_items.specs.Declarations.{rename}
+use Rattle.f_unit_items.proofs.Steps.{each-step}
+use Rattle.f_unit_items.proofs.declaration.put_renames.Goals as goal
+
+pub loop-left-preserved : goal.loop-left-preserved
+loop-left-preserved c =
+    let left = c.loop-left.left in
+    let xs = c.args.list.now in
+    let item = c.index-list-left.result in
+    let one : left - 1 + 1 ≡ left = omega arith in
+    let bound = c.loop-left.invariant.within in
+    let within : left - 1 < length xs = omega arith in
+    let here : get_or xs (left - 1) item ≡ item = sym c.index-list-left.is in
+    record { within = omega arith; so_far = rw (c.in_ok-put_rename.ensures) (each-step (rename c.args.source.now) xs left (left - 1) item c.loop-left.out one within here ∙ c.loop-left.invariant.so_far) }

@@ -1,0 +1,10 @@
+use Rattle.std.proofs.Common.{◌≡◌, ◌≤◌, map, take, length}
+use Rattle.f_unit_items.specs.Fronts.{each}
+use Rattle.f_unit_items.specs.Declarations.{procedure_pointer}
+use Rattle.f_unit_items.proofs.definition.put_pointers.Given as goal
+
+abbrev pub invariant-loop-left : goal.invariant-loop-left
+invariant-loop-left l = record { within : l.left ≤ length l.list; so_far : each (map (procedure_pointer l.access) (take l.left l.list)) l.out ≡ each (map (procedure_pointer l.access) l.list) l.initial.out }
+
+abbrev pub decreases-loop-left : goal.decreases-loop-left
+decreases-loop-left l = l.left
