@@ -1,0 +1,5 @@
+pub mod Marks
+pub mod Units
+pub mod Graph
+pub mod Reach
+pub mod Order
