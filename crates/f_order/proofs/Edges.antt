@@ -82,10 +82,14 @@ module _ (o : Outline) (units : List ℕ) (table : AreUnits o units) where
   pub graph_is : (present modules : List Bool) (edges : List (List ℕ)) → ((u : ℕ) → Decides (marked present u) (IsUnit o.items u)) → ((u : ℕ) → Decides (marked modules u) (IsModuleUnit o.items u)) → AreEdges o.items edges → IsGraph o present modules edges
   graph_is present modules edges a b e = record { units_are = a; modules_are = b; edges_are = e; within = λ u i. let lt = table.within i.0 i.1 i.2 in let is = i.3 in omega (arith, lt, is) }
 
+-- the lists have the pairs that stand below a place
+pub record PairsBelow (P : ℕ → ℕ → ℕ → Type 0) (lists : List (List ℕ)) (n : ℕ) : Type 0 where
+  pub sound : (u m : ℕ) → Among (list_at lists u) m → (k : ℕ) × (k < n) × P k u m
+  pub complete : (u m k : ℕ) → k < n → P k u m → Among (list_at lists u) m
+
 -- the lists have the edges of the items below a place
-pub record EdgesBelow (p : List Located) (edges : List (List ℕ)) (n : ℕ) : Type 0 where
-  pub sound : (u m : ℕ) → Among (list_at edges u) m → (k : ℕ) × (k < n) × UsesModule p k u m
-  pub complete : (u m k : ℕ) → k < n → UsesModule p k u m → Among (list_at edges u) m
+abbrev pub EdgesBelow : List Located → List (List ℕ) → ℕ → Type 0
+EdgesBelow p edges n = PairsBelow (UsesModule p) edges n
 
 no_list : (c u : ℕ) → list_at (replicate c []) u ≡ []
 no_list c u = pick (ltb u c) refl where
@@ -99,10 +103,13 @@ no_list c u = pick (ltb u c) refl where
   pick true e = get_or-replicate c u [] [] (ltb-true u c e)
   pick false e = past (replicate c []) refl (ltb-false u c e)
 
-pub edges_none : (p : List Located) (c : ℕ) → EdgesBelow p (replicate c []) 0
-edges_none p c = record { sound = λ u m a. sound u m (let P : List ℕ → Type 0 = λ l. Among l m in subst P (no_list c u) a); complete = λ u m k lt. absurd (omega (arith, lt)) } where
-  sound : (u m : ℕ) → Among [] m → (k : ℕ) × (k < 0) × UsesModule p k u m
+pub pairs_none : (P : ℕ → ℕ → ℕ → Type 0) (c : ℕ) → PairsBelow P (replicate c []) 0
+pairs_none P c = record { sound = λ u m a. sound u m (let Q : List ℕ → Type 0 = λ l. Among l m in subst Q (no_list c u) a); complete = λ u m k lt. absurd (omega (arith, lt)) } where
+  sound : (u m : ℕ) → Among [] m → (k : ℕ) × (k < 0) × P k u m
   sound u m a = let e = a.1 in absurd (cc)
+
+pub edges_none : (p : List Located) (c : ℕ) → EdgesBelow p (replicate c []) 0
+edges_none p c = pairs_none (UsesModule p) c
 
 put-here : (lists : List (List ℕ)) (at n : ℕ) → at < length lists → list_at (put_at lists at n) at ≡ list_at lists at ++ n ∷ []
 put-here lists at n lt = ap (λ b. list_at (cond b (set lists at (list_at lists at ++ n ∷ [])) lists) at) (lt-ltb at (length lists) lt) ∙ get_or-set_same lists at (list_at lists at ++ n ∷ []) [] lt
@@ -119,64 +126,64 @@ length_put lists at n = pick (ltb at (length lists)) where
   pick true = length-set lists at (list_at lists at ++ n ∷ [])
   pick false = refl
 
-module _ (p : List Located) (edges : List (List ℕ)) (n : ℕ) (old : EdgesBelow p edges n) where
+module _ (P : ℕ → ℕ → ℕ → Type 0) (edges : List (List ℕ)) (n : ℕ) (old : PairsBelow P edges n) where
   smaller : (k : ℕ) → k < suc n → (k < n) ⊎ (k ≡ n)
   smaller k lt = pick (ltb k n) refl where
     pick : (b : Bool) → ltb k n ≡ b → (k < n) ⊎ (k ≡ n)
     pick true e = inl (ltb-true k n e)
     pick false e = let le = ltb-false k n e in inr (omega (arith, le, lt))
 
-  pub edges_same : EdgeFound p n None → EdgesBelow p edges (suc n)
-  edges_same none = record { sound = λ u m a. (let f = old.sound u m a in let lt = f.1 in (f.0, omega (arith, lt), f.2)); complete = λ u m k lt i. pick u m k i (smaller k lt) } where
-    pick : (u m k : ℕ) → UsesModule p k u m → (k < n) ⊎ (k ≡ n) → Among (list_at edges u) m
+  pub pairs_same : ((u m : ℕ) → P n u m → ⊥) → PairsBelow P edges (suc n)
+  pairs_same none = record { sound = λ u m a. (let f = old.sound u m a in let lt = f.1 in (f.0, omega (arith, lt), f.2)); complete = λ u m k lt i. pick u m k i (smaller k lt) } where
+    pick : (u m k : ℕ) → P k u m → (k < n) ⊎ (k ≡ n) → Among (list_at edges u) m
     pick u m k i (inl a) = old.complete u m k a i
-    pick u m k i (inr e) = let Q : ℕ → Type 0 = λ j. UsesModule p j u m in absurd (none u m (subst Q e i))
+    pick u m k i (inr e) = let Q : ℕ → Type 0 = λ j. P j u m in absurd (none u m (subst Q e i))
 
-  pub edges_more : (e : Edge) → e.unit < length edges → EdgeFound p n (Some e) → EdgesBelow p (put_at edges e.unit e.module_unit) (suc n)
-  edges_more e range found = record { sound = λ u m a. sound u m a (eqb u e.unit) refl; complete = λ u m k lt i. complete u m k i (smaller k lt) } where
+  pub pairs_more : (e : Edge) → e.unit < length edges → P n e.unit e.module_unit × ((u m : ℕ) → P n u m → (u ≡ e.unit) × (m ≡ e.module_unit)) → PairsBelow P (put_at edges e.unit e.module_unit) (suc n)
+  pairs_more e range found = record { sound = λ u m a. sound u m a (eqb u e.unit) refl; complete = λ u m k lt i. complete u m k i (smaller k lt) } where
     new : List (List ℕ)
     new = put_at edges e.unit e.module_unit
 
     apart : (u : ℕ) → eqb u e.unit ≡ false → u ≡ e.unit → ⊥
     apart u eb is = let holds : eqb u e.unit ≡ true = eq-eqb u e.unit is in cc
 
-    before : (u m : ℕ) → Among (list_at edges u) m → (k : ℕ) × (k < suc n) × UsesModule p k u m
+    before : (u m : ℕ) → Among (list_at edges u) m → (k : ℕ) × (k < suc n) × P k u m
     before u m a = let f = old.sound u m a in let lt = f.1 in (f.0, omega (arith, lt), f.2)
 
-    here : (u m : ℕ) → u ≡ e.unit → Among (list_at edges e.unit) m ⊎ (m ≡ e.module_unit) → (k : ℕ) × (k < suc n) × UsesModule p k u m
+    here : (u m : ℕ) → u ≡ e.unit → Among (list_at edges e.unit) m ⊎ (m ≡ e.module_unit) → (k : ℕ) × (k < suc n) × P k u m
     here u m is (inl a) = let Q : ℕ → Type 0 = λ v. Among (list_at edges v) m in before u m (subst Q (sym is) a)
-    here u m is (inr same) = let Q : ℕ → ℕ → Type 0 = λ v w. UsesModule p n v w in (n, omega arith, subst (λ v. Q v m) (sym is) (subst (λ w. Q e.unit w) (sym same) found.0))
+    here u m is (inr same) = let Q : ℕ → ℕ → Type 0 = λ v w. P n v w in (n, omega arith, subst (λ v. Q v m) (sym is) (subst (λ w. Q e.unit w) (sym same) found.0))
 
-    sound : (u m : ℕ) → Among (list_at (put_at edges e.unit e.module_unit) u) m → (b : Bool) → eqb u e.unit ≡ b → (k : ℕ) × (k < suc n) × UsesModule p k u m
+    sound : (u m : ℕ) → Among (list_at (put_at edges e.unit e.module_unit) u) m → (b : Bool) → eqb u e.unit ≡ b → (k : ℕ) × (k < suc n) × P k u m
     sound u m a true eb =
         let is = eqb-true u e.unit eb in
-        let P : ℕ → Type 0 = λ v. Among (list_at (put_at edges e.unit e.module_unit) v) m in
+        let W : ℕ → Type 0 = λ v. Among (list_at (put_at edges e.unit e.module_unit) v) m in
         let Q : List ℕ → Type 0 = λ l. Among l m in
-        here u m is (among_cases (list_at edges e.unit) e.module_unit m (subst Q (put-here edges e.unit e.module_unit range) (subst P is a)))
+        here u m is (among_cases (list_at edges e.unit) e.module_unit m (subst Q (put-here edges e.unit e.module_unit range) (subst W is a)))
     sound u m a false eb = let Q : List ℕ → Type 0 = λ l. Among l m in before u m (subst Q (put-there edges e.unit e.module_unit u (apart u eb)) a)
 
     stays : (u m : ℕ) → Among (list_at edges u) m → (b : Bool) → eqb u e.unit ≡ b → Among (list_at (put_at edges e.unit e.module_unit) u) m
     stays u m a true eb =
         let is = eqb-true u e.unit eb in
-        let P : ℕ → Type 0 = λ v. Among (list_at (put_at edges e.unit e.module_unit) v) m in
+        let W : ℕ → Type 0 = λ v. Among (list_at (put_at edges e.unit e.module_unit) v) m in
         let R : ℕ → Type 0 = λ v. Among (list_at edges v) m in
         let Q : List ℕ → Type 0 = λ l. Among l m in
-        subst P (sym is) (subst Q (sym (put-here edges e.unit e.module_unit range)) (among_more (list_at edges e.unit) (e.module_unit ∷ []) m (subst R is a)))
+        subst W (sym is) (subst Q (sym (put-here edges e.unit e.module_unit range)) (among_more (list_at edges e.unit) (e.module_unit ∷ []) m (subst R is a)))
     stays u m a false eb = let Q : List ℕ → Type 0 = λ l. Among l m in subst Q (sym (put-there edges e.unit e.module_unit u (apart u eb))) a
 
-    complete : (u m k : ℕ) → UsesModule p k u m → (k < n) ⊎ (k ≡ n) → Among (list_at (put_at edges e.unit e.module_unit) u) m
+    complete : (u m k : ℕ) → P k u m → (k < n) ⊎ (k ≡ n) → Among (list_at (put_at edges e.unit e.module_unit) u) m
     complete u m k i (inl a) = stays u m (old.complete u m k a i) (eqb u e.unit) refl
     complete u m k i (inr same) =
-        let Q : ℕ → Type 0 = λ j. UsesModule p j u m in
+        let Q : ℕ → Type 0 = λ j. P j u m in
         let is = found.1 u m (subst Q same i) in
-        let P : ℕ → Type 0 = λ v. Among (list_at (put_at edges e.unit e.module_unit) v) m in
+        let W : ℕ → Type 0 = λ v. Among (list_at (put_at edges e.unit e.module_unit) v) m in
         let R : List ℕ → Type 0 = λ l. Among l m in
         let T : ℕ → Type 0 = λ w. Among (list_at edges e.unit ++ e.module_unit ∷ []) w in
-        subst P (sym is.0) (subst R (sym (put-here edges e.unit e.module_unit range)) (subst T (sym is.1) (among_last (list_at edges e.unit) e.module_unit)))
+        subst W (sym is.0) (subst R (sym (put-here edges e.unit e.module_unit range)) (subst T (sym is.1) (among_last (list_at edges e.unit) e.module_unit)))
 
 pub edges_next : (o : Outline) (units : List ℕ) → AreUnits o units → (edges : List (List ℕ)) (k : ℕ) (r : Option Edge) → length edges ≡ o.scopes → EdgeFound o.items k r → EdgesBelow o.items edges k → EdgesBelow o.items (put_some edges r) (suc k)
-edges_next o units table edges k None long found old = edges_same o.items edges k old found
-edges_next o units table edges k (Some e) long found old = let lt = unit_range o units table k e.unit e.module_unit found.0 in edges_more o.items edges k old e (omega (arith, lt, long)) found
+edges_next o units table edges k None long found old = pairs_same (UsesModule o.items) edges k old found
+edges_next o units table edges k (Some e) long found old = let lt = unit_range o units table k e.unit e.module_unit found.0 in pairs_more (UsesModule o.items) edges k old e (omega (arith, lt, long)) found
 
 pub length_put_some : (edges : List (List ℕ)) (r : Option Edge) → length (put_some edges r) ≡ length edges
 length_put_some edges None = refl

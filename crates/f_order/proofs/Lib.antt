@@ -3,3 +3,4 @@ pub mod Numbers
 pub mod Edges
 pub mod Search
 pub mod Cycles
+pub mod Behind

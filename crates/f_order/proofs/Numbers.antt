@@ -80,7 +80,7 @@ module _ (rows : List ScopeRow) (hosts : AreHosts rows) where
 -- ---- the table
 
 pub table_is : (o : Outline) (rows : List ScopeRow) (xs : List Placed) (own : List (List Row)) → AreParts o rows xs own → (units : List ℕ) → AreNumbers rows units (length rows) → AreUnits o units
-table_is o rows xs own are units known = record { numbers = λ k l at. numbers k l (seen_at rows xs k l (here k l at)); within = λ k l at. within k l (seen_at rows xs k l (here k l at)) } where
+table_is o rows xs own are units known = record { numbers = λ k l at. numbers k l (seen_at rows xs k l (here k l at)); within = λ k l at. within k l (seen_at rows xs k l (here k l at)); inside = λ k l at. inside k l (seen_at rows xs k l (here k l at)) } where
   here : (k : ℕ) (l : Located) → At o.items k l → At (map (seen rows) xs) k l
   here k l at = ap (λ p. slice_get p k) are.items_are ∙ at
 
@@ -96,6 +96,13 @@ table_is o rows xs own are units known = record { numbers = λ k l at. numbers k
       let is : unit_of l ≡ unit_number rows x.0.scope = ap unit_of x.2 in
       let count = are.scopes_are in
       omega (arith, range, under, is, count)
+
+  inside : (k : ℕ) (l : Located) → (x : Placed) × (slice_get xs k ≡ Some x) × (l ≡ seen rows x) → (scope_of l).number < o.scopes
+  inside k l x =
+      let range = within_at (length rows) xs k x.0 are.within x.1 in
+      let is : (scope_of l).number ≡ x.0.scope = ap (λ y. (scope_of y).number) x.2 ∙ number_is rows x.0.scope are.hosts in
+      let count = are.scopes_are in
+      omega (arith, range, is, count)
 
 -- ---- what stands at a place
 

@@ -3,3 +3,4 @@ pub mod Units
 pub mod Graph
 pub mod Reach
 pub mod Order
+pub mod Scopes

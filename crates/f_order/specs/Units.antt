@@ -30,6 +30,7 @@ AreNumbers rows units n = (s : ℕ) → s < n → number_at units s ≡ unit_num
 pub record AreUnits (o : Outline) (units : List ℕ) : Type 0 where
   pub numbers : (k : ℕ) (l : Located) → At o.items k l → number_at units (scope_of l).number ≡ unit_of l
   pub within : (k : ℕ) (l : Located) → At o.items k l → unit_of l < o.scopes
+  pub inside : (k : ℕ) (l : Located) → At o.items k l → (scope_of l).number < o.scopes
 
 -- ---- what stands at a place
 

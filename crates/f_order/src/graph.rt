@@ -74,7 +74,7 @@ pub(crate) fn mark_modules(
 }
 
 /// So many empty lists.
-fn no_lists(alloc: Global, count: usize) -> Result<Vec<Places>, AllocError>
+pub(crate) fn no_lists(alloc: Global, count: usize) -> Result<Vec<Places>, AllocError>
     ensures { IfOk result (λ lists. lists.items ≡ Rattle.std.specs.Prelude.replicate count Rattle.std.specs.Prelude.[]) }
 {
     let mut lists = Vec::new(alloc);
@@ -85,7 +85,7 @@ fn no_lists(alloc: Global, count: usize) -> Result<Vec<Places>, AllocError>
 }
 
 /// Puts a number into the list with another.
-fn put_at(lists: &mut Vec<Places>, at: usize, number: usize) -> Result<(), AllocError>
+pub(crate) fn put_at(lists: &mut Vec<Places>, at: usize, number: usize) -> Result<(), AllocError>
     ensures { OnOk result (lists.new.items ≡ put_at lists.old.items at number) }
 {
     if at < lists.len() {

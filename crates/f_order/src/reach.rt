@@ -11,7 +11,7 @@ use f_use::{Places, places_in};
 use std::alloc::{AllocError, Global};
 
 /// Adds a number to those that were found, if it wasn't, and marks it.
-fn extend_one(
+pub(crate) fn extend_one(
     found: &mut Vec<usize>,
     marks: &mut Vec<bool>,
     number: usize,
@@ -28,7 +28,7 @@ fn extend_one(
 
 /// Adds the numbers to those that were found, each if it wasn't, and marks them.
 #[tactic(auto, unfolding(crate::specs::Reach::extended))]
-fn extend(
+pub(crate) fn extend(
     found: &mut Vec<usize>,
     marks: &mut Vec<bool>,
     numbers: &[usize],
