@@ -4,3 +4,4 @@ pub mod Graph
 pub mod Reach
 pub mod Order
 pub mod Scopes
+pub mod Resolved

@@ -7,9 +7,11 @@ mod graph;
 mod marks;
 mod order;
 mod reach;
+mod resolved;
 mod scopes;
 mod units;
 
 pub use order::{UnitOrder, order_units};
+pub use resolved::{Resolution, Resolved, resolve};
 pub use scopes::order_scopes;
 pub use units::{Edge, unit_table};
