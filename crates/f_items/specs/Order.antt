@@ -1,24 +1,31 @@
 -- In which order units are looked at: a module after those that it uses, and else in the order of the text; then the other units.
-use Rattle.std.specs.Prelude.{◌≡◌, ℕ, ◌≤◌, ◌⊎◌, List, [], ◌∷◌, Bool}
+use Rattle.std.specs.Prelude.{◌≡◌, ℕ, ◌≤◌, ◌⊎◌, List, [], ◌∷◌, Option, Some, None}
 use Rattle.std.specs.List.{Contains}
-use Rattle.jf_base.specs.declared.place.Place.{Place}
-use Rattle.f_items.specs.declared.item.Name.{Name}
-use Rattle.f_items.specs.declared.item.Item.TheVariants.{Uses}
-use Rattle.f_items.specs.declared.item.ScopeKind.TheVariants as kind
-use Rattle.f_items.specs.Places.{Scope, Located, unit_of, At, Begins}
+use Rattle.f_items.specs.declared.item.Item.{Item}
+use Rattle.f_items.specs.declared.item.Item.TheVariants.{Uses, Takes}
+use Rattle.f_items.specs.Places.{Located, unit_of, At}
 use Rattle.f_items.specs.Accessible.{IsModule}
 
--- the item at place k is a USE statement in this unit for the module with this number
+-- the module that an item of a USE statement names
+abbrev pub module_used : Item → Option (List ℕ)
+module_used (Uses place m i o) = Some m.bytes
+module_used (Takes m l u r) = Some m
+module_used _ = None
+
+-- the module of this name is in the unit with this number
+pub record IsInUnit (p : List Located) (name : List ℕ) (unit : ℕ) : Type 0 where
+  pub scope : ℕ
+  pub is_module : IsModule p name scope
+  pub unit_is : unit_of is_module.located ≡ unit
+
+-- the item at place k is a USE statement, or a name in one, in this unit for a module that is in the unit with number m
 pub record UsesModule (p : List Located) (k : ℕ) (unit m : ℕ) : Type 0 where
   pub located : Located
-  pub place : Place
-  pub name : Name
-  pub is_intrinsic : Bool
-  pub is_only : Bool
+  pub name : List ℕ
   pub at : At p k located
-  pub item_is : located.item ≡ Uses place name is_intrinsic is_only
+  pub uses : module_used located.item ≡ Some name
   pub unit_is : unit_of located ≡ unit
-  pub module_is : IsModule p name.bytes m
+  pub module_is : IsInUnit p name m
 
 -- a unit depends on a module (14.2.2)
 abbrev pub DependsOn : List Located → ℕ → ℕ → Type 0
@@ -36,12 +43,13 @@ pub record IsOnCycle (p : List Located) (k : ℕ) : Type 0 where
   pub uses : UsesModule p k unit m
   pub back : Reaches p m unit
 
--- the scope with this number is a program unit, or it is a module
+-- an item stands in the unit with this number, which is a program unit or what is around the program units
 abbrev pub IsUnit : List Located → ℕ → Type 0
-IsUnit p u = (s : Scope) × (s.number ≡ u) × Begins p (s ∷ [])
+IsUnit p u = (k : ℕ) × (l : Located) × At p k l × (unit_of l ≡ u)
 
+-- and a module is in it
 abbrev pub IsModuleUnit : List Located → ℕ → Type 0
-IsModuleUnit p u = (s : Scope) × (s.number ≡ u) × (s.kind ≡ kind.Module) × Begins p (s ∷ [])
+IsModuleUnit p u = (name : List ℕ) × IsInUnit p name u
 
 -- a module can be looked at when those that it uses were, and another unit when all modules were
 pub record IsReady (p : List Located) (done : List ℕ) (u : ℕ) : Type 0 where

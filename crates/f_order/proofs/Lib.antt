@@ -1,0 +1,6 @@
+pub mod Marking
+pub mod Numbers
+pub mod Edges
+pub mod Search
+pub mod Cycles
+pub mod Behind

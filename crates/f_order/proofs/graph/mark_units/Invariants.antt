@@ -1,0 +1,14 @@
+use Rattle.std.proofs.Common.{◌≡◌, ◌≤◌, ◌-◌, length}
+use Rattle.f_order.proofs.Marking.{MarkedBelow}
+use Rattle.f_order.proofs.Edges.{StandsIn}
+use Rattle.f_order.proofs.graph.mark_units.Given as goal
+
+abbrev pub invariant-items : goal.invariant-items
+invariant-items l = record {
+  within : l.place ≤ l.count;
+  long : length l.marks.items ≡ l.program.scopes;
+  below : MarkedBelow (StandsIn l.program.items) l.marks.items l.place;
+}
+
+abbrev pub decreases-items : goal.decreases-items
+decreases-items l = l.count - l.place
