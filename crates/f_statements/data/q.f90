@@ -1,0 +1,4 @@
+program q
+implicit none
+use m
+end program

@@ -1,0 +1,3 @@
+program s
+  print *, 'never ended
+end program
