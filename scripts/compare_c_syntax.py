@@ -9,7 +9,7 @@
 What is left out of the second comparison, since the subset hasn't got it: labels, bit-fields, members without a name, designators, compound literals,
 lists of names in place of parameters, and qualifiers, `static` or `*` in brackets. Such files are counted where gcc accepts them.
 """
-import os, random, re, subprocess, sys, tempfile
+import os, random, re, shutil, subprocess, sys, tempfile
 
 TOKEN = re.compile(r"""\"(?:\\.|[^\"\\])*\"|'(?:\\.|[^'\\])'|[A-Za-z_]\w*|\d+[uUlL]*|<<=|>>=|->|\+\+|--|<<|>>|<=|>=|==|!=|&&|\|\||[*/%+\-&^|]=|\S""")
 GCC = ["gcc", "-fsyntax-only", "-std=c11", "-pedantic-errors", "-fmax-errors=1000"]
@@ -367,6 +367,7 @@ def main():
     if differ:
         print(f"the files are in {folder}")
         sys.exit(1)
+    shutil.rmtree(folder)
 
 
 if __name__ == "__main__":
