@@ -13,7 +13,9 @@ import os, random, re, shutil, subprocess, sys, tempfile
 
 TOKEN = re.compile(r"""\"(?:\\.|[^\"\\])*\"|'(?:\\.|[^'\\])'|[A-Za-z_]\w*|\d+[uUlL]*|<<=|>>=|->|\+\+|--|<<|>>|<=|>=|==|!=|&&|\|\||[*/%+\-&^|]=|\S""")
 GCC = ["gcc", "-fsyntax-only", "-std=c11", "-pedantic-errors", "-fmax-errors=1000"]
-SYNTAX = re.compile(r"error: (expected|unknown type name|stray|‘else’ without|two consecutive)")
+# behind `}` gcc tells a second type (6.7.2p2, a constraint) as a fault of form
+SECOND_TYPE = "‘;’, identifier or ‘\\(’ before ‘(?:char|short|int|long|signed|unsigned|_Bool|void|enum|struct)’"
+SYNTAX = re.compile(rf"error: (expected (?!{SECOND_TYPE})|unknown type name|stray|‘else’ without|two consecutive)")
 NAMES = ["a", "b", "c", "d", "e", "f", "g", "T", "U", "V"]
 BINARY = "* / % + - << >> < > <= >= == != & ^ | && ||".split()
 ASSIGN = "= *= /= %= += -= <<= >>= &= ^= |=".split()
