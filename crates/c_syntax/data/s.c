@@ -1,0 +1,1 @@
+int f(void) { goto a; a: return 0; }
