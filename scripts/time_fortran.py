@@ -4,9 +4,9 @@ For each text: its bytes, tokens and statements, the seconds of a processor that
 takes, and the tokens of one second. A text has as many bytes as a file may have, 1,048,576, or as many tokens as there may be, 262,144. The time of the
 program's start is taken off.
 """
-import os, re, resource, subprocess, sys, tempfile
+import os, re, subprocess, sys, tempfile
 
-MOST_BYTES, MOST_TOKENS = 1_048_576, 262_144
+from time_preprocessor import MOST_BYTES, MOST_TOKENS, processor
 
 
 def program(line, tokens, percent):
@@ -68,12 +68,6 @@ def procedures(n):
 
 
 TEXTS = [assignments, long_names, choices, loops, nested_parentheses, powers, sums, declarations, calls, prints, comments, procedures]
-
-
-def processor():
-    """The seconds of a processor that the programs started here have taken."""
-    used = resource.getrusage(resource.RUSAGE_CHILDREN)
-    return used.ru_utime + used.ru_stime
 
 
 def timed(program, text):
