@@ -5,11 +5,11 @@
 //! in the scope is not told.
 
 ghost use Rattle.std.specs.Prelude.{◌≡◌, IfOk, length, map};
-ghost use Rattle.c_grammar.specs.Grammar.{Scope as Names, after_typed, bind, name_of};
+ghost use Rattle.c_grammar.specs.Grammar.{Scope as Names, after_specs, after_typed, bind, name_of};
 ghost use Rattle.c_grammar.specs.Reading.{Gives};
 ghost use Rattle.c_unit_grammar.specs.Statements.{after_init, after_inits, after_declaration};
-ghost use Rattle.c_unit_grammar.specs.Reading.{init_at, inits_at, behind_at, declares_at, declaration_at};
-ghost use Rattle.c_expression_read.specs.Views.{view_declarator, view_typed};
+ghost use Rattle.c_unit_grammar.specs.Reading.{init_at, inits_at, behind_at, declares_at, declaration_at, declarators_at};
+ghost use Rattle.c_expression_read.specs.Views.{view_declarator, view_specifier, view_typed, specs_of};
 ghost use Rattle.c_declaration_read.specs.Views.{view_init, view_declaration, behind_typed};
 
 use crate::initializer::value;
@@ -20,7 +20,7 @@ use c_expression_read::{
 };
 use c_grammar::{Allowed, ReadError, Token};
 use c_scope::Scope;
-use c_tree::{Declaration, Declarator, InitDeclarator, Typed};
+use c_tree::{Declaration, Declarator, InitDeclarator, Specifier, Typed};
 use jf_base::List;
 use std::alloc::{AllocError, Global};
 
@@ -104,8 +104,32 @@ pub fn read_behind_declarator<'a>(
     Ok((made::declaration(first, value, others)?, rest))
 }
 
+// What stands behind the specifiers of a declaration that has declarators, to its `;`. The specifiers begin at the number given.
+#[tactic(auto, unfolding(c_unit_grammar::specs::Reading::declares_at))]
+fn declarators<'a>(
+    alloc: Global,
+    end: u32,
+    depth: u32,
+    at: u32,
+    specifiers: Vec<Specifier>,
+    scope: &mut Scope,
+    tokens: &'a [Token],
+) -> Result<(Declaration, &'a [Token]), ReadError>
+    ensures read { Gives (λ x. (view_declaration x.0, x.1.now)) result (declares_at depth (specs_of (map view_specifier specifiers.items)) scope.old tokens.now) }
+    ensures scope { IfOk result (λ x. (s : Names) → scope.old ≡ after_specs (specs_of (map view_specifier specifiers.items)) s → scope.new ≡ after_declaration (view_declaration x.0) s) }
+{
+    let (declarator, rest) = read_declarator(alloc, end, depth, Allowed::Named, scope, tokens)?;
+    let specifiers = List::from_vec(specifiers);
+    let first = Typed {
+        specifiers,
+        declarator,
+        at,
+    };
+    read_behind_declarator(alloc, end, depth, first, scope, rest)
+}
+
 /// The declaration that stands first, and the tokens behind it (ISO/IEC 9899:2011, 6.7).
-#[tactic(auto, unfolding(c_unit_grammar::specs::Reading::declaration_at, c_unit_grammar::specs::Reading::declares_at))]
+#[tactic(auto, unfolding(c_unit_grammar::specs::Reading::declaration_at))]
 pub fn read_declaration<'a>(
     alloc: Global,
     end: u32,
@@ -120,22 +144,23 @@ pub fn read_declaration<'a>(
     let (specifiers, rest) = read_specifiers(alloc, end, depth, scope, tokens)?;
     match ends_declaration(rest) {
         Some(rest) => Ok((made::bare_declaration(alloc, specifiers, at), rest)),
-        None => {
-            let (declarator, rest) = read_declarator(
-                alloc,
-                end,
-                depth,
-                Allowed::Named,
-                scope,
-                rest,
-            )?;
-            let specifiers = List::from_vec(specifiers);
-            let first = Typed {
-                specifiers,
-                declarator,
-                at,
-            };
-            read_behind_declarator(alloc, end, depth, first, scope, rest)
-        }
+        None => declarators(alloc, end, depth, at, specifiers, scope, rest),
     }
+}
+
+/// The declaration that stands first, which has declarators, and the tokens behind it: what a `for` may begin with (ISO/IEC 9899:2011, 6.8.5.3).
+#[tactic(auto, unfolding(c_unit_grammar::specs::Reading::declarators_at))]
+pub fn read_declarators<'a>(
+    alloc: Global,
+    end: u32,
+    depth: u32,
+    scope: &mut Scope,
+    tokens: &'a [Token],
+) -> Result<(Declaration, &'a [Token]), ReadError>
+    ensures read { Gives (λ x. (view_declaration x.0, x.1.now)) result (declarators_at depth scope.old tokens.now) }
+    ensures scope { IfOk result (λ x. scope.new ≡ after_declaration (view_declaration x.0) scope.old) }
+{
+    let at = number(end, tokens);
+    let (specifiers, rest) = read_specifiers(alloc, end, depth, scope, tokens)?;
+    declarators(alloc, end, depth, at, specifiers, scope, rest)
 }

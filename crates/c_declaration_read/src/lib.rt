@@ -6,7 +6,7 @@ mod initializer;
 mod made;
 mod word;
 
-pub use declaration::{declare, read_behind_declarator, read_declaration};
+pub use declaration::{declare, read_behind_declarator, read_declaration, read_declarators};
 pub use made::bare_declaration;
 pub use word::{brace_opened, ends_declaration};
 

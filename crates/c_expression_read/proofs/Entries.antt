@@ -5,12 +5,11 @@ use Rattle.c_grammar.specs.declared.token.Allowed.{Allowed}
 use Rattle.c_grammar.specs.declared.token.Token.{Token}
 use Rattle.c_grammar.specs.declared.fault.Fault.{Fault}
 use Rattle.c_grammar.specs.declared.fault.ReadError.{ReadError}
-use Rattle.c_grammar.specs.Grammar.{Scope, Expr, Specs, Decl, Typed, spell, spell_specs, spell_decl, spell_typed, Fits, FitsSpecs, FitsDecl, FitsTyped, Within, Stops, Ends, NoBraces}
-use Rattle.c_grammar.specs.Reading.{Gives, inner, level_at, specs_at, decl_at, typed_at, begins_spec}
+use Rattle.c_grammar.specs.Grammar.{Scope, Expr, Specs, Decl, Typed, spell, spell_specs, spell_decl, spell_typed, after_specs, is_based, Fits, FitsSpecifiers, FitsDecl, FitsTyped, Within, Stops, Ends, NoBraces}
+use Rattle.c_grammar.specs.Reading.{Gives, inner, level_at, specifiers_at, decl_at, typed_at, begins_spec}
 use Rattle.c_expression_read.specs.Gives.{IsReadAs}
-use Rattle.c_grammar.proofs.Sound.{level_sound, specs_sound, decl_sound, typed_sound, inner_sound}
-use Rattle.c_grammar.proofs.Again.{level_again, specs_again, decl_again, typed_again}
-use Rattle.c_grammar.proofs.Lengths.{grows_specs}
+use Rattle.c_grammar.proofs.Sound.{ok_also, AreSpecifiers, level_sound, specifiers_sound, decl_sound, typed_sound, inner_sound}
+use Rattle.c_grammar.proofs.Again.{level_again, specifiers_again, decl_again, typed_again}
 
 found_by : {X Y : Type 0} (seen : X → Y) (result : Result X ReadError) (read : Result Y Fault) (P : Y → Type 0) → Gives seen result read → IfOk read P → IfOk result (λ x. P (seen x))
 found_by seen (Ok x) read P g p = subst (λ (r : Result _ Fault). IfOk r P) g p
@@ -44,17 +43,14 @@ module _ {X : Type 0} (seen : X → Expr × List Token) (result : Result X ReadE
 
 -- ---- specifiers
 
-specifiers_again : (n : ℕ) (s : Scope) (specs : Specs) (rest ts : List Token) → FitsSpecs n false s specs → ((t : Scope) → begins_spec true t rest ≡ false) → NoBraces rest → ts ≡ spell_specs specs rest → specs_at (inner n) (length ts) false s ts ≡ Ok (specs, rest)
-specifiers_again n s specs rest ts f none b is =
-    ap (λ (us : List Token). specs_at (inner n) (length us) false s us) is
-    ∙ specs_again specs n (length (spell_specs specs rest)) false s rest f none b (omega (arith, grows_specs specs rest))
-
 module _ {X : Type 0} (seen : X → Specs × List Token) (result : Result X ReadError) (n : ℕ) (s : Scope) (ts : List Token) where
-  pub specs_found : Gives seen result (specs_at (inner n) (length ts) false s ts) → IfOk result (λ x. (ts ≡ spell_specs (seen x).0 (seen x).1) × FitsSpecs n false s (seen x).0)
-  specs_found g = found_by seen result (specs_at (inner n) (length ts) false s ts) (λ y. (ts ≡ spell_specs y.0 y.1) × FitsSpecs n false s y.0) g (specs_sound (inner n) n (inner_sound n) (length ts) false s ts)
+  pub specs_found : Gives seen result (specifiers_at (inner n) s ts) → IfOk result (λ x. (ts ≡ spell_specs (seen x).0 (seen x).1) × FitsSpecifiers n s (seen x).0)
+  specs_found g =
+      found_by seen result (specifiers_at (inner n) s ts) (λ y. (ts ≡ spell_specs y.0 y.1) × FitsSpecifiers n s y.0) g
+      (ok_also (specifiers_at (inner n) s ts) (AreSpecifiers (inner n) n (inner_sound n) s ts) (λ y. (ts ≡ spell_specs y.0 y.1) × FitsSpecifiers n s y.0) (specifiers_sound (inner n) n (inner_sound n) s ts) (λ y p. (p.0, p.1)))
 
-  pub specs_only : Gives seen result (specs_at (inner n) (length ts) false s ts) → (specs : Specs) (rest : List Token) → FitsSpecs n false s specs → ((t : Scope) → begins_spec true t rest ≡ false) → NoBraces rest → ts ≡ spell_specs specs rest → IsReadAs specs rest seen result
-  specs_only g specs rest f none b is = only_by seen result (specs_at (inner n) (length ts) false s ts) (specs, rest) g (specifiers_again n s specs rest ts f none b is)
+  pub specs_only : Gives seen result (specifiers_at (inner n) s ts) → (specs : Specs) (rest : List Token) → FitsSpecifiers n s specs → begins_spec (is_based false specs) (after_specs specs s) rest ≡ false → NoBraces rest → ts ≡ spell_specs specs rest → IsReadAs specs rest seen result
+  specs_only g specs rest f none b is = only_by seen result (specifiers_at (inner n) s ts) (specs, rest) g (ap (λ (us : List Token). specifiers_at (inner n) s us) is ∙ specifiers_again specs n s rest f none b)
 
 -- ---- declarators
 

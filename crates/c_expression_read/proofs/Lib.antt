@@ -5,5 +5,4 @@ pub mod Levels
 pub mod Loops
 pub mod Runs
 pub mod Shifts
-pub mod Specified
 pub mod Turns

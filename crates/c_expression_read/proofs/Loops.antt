@@ -52,11 +52,6 @@ module _ {E L S : Type 0} (nil : L) (cons : E → L → L) (F : ℕ → S → Li
       let k : most - i ≡ zero = omega arith in
       sym so_far ∙ ap (λ (n : ℕ). behind cons es (F n s ts)) k ∙ ap (behind cons es) stop
 
-  pub done_by : most ≤ i → (end : Read L) → F zero s ts ≡ end → total ≡ behind cons es end
-  done_by le end stop =
-      let k : most - i ≡ zero = omega arith in
-      sym so_far ∙ ap (λ (n : ℕ). behind cons es (F n s ts)) k ∙ ap (behind cons es) stop
-
 -- with a view of the elements
 pub goes_on : {X E L S : Type 0} (nil : L) (cons : E → L → L) (F : ℕ → S → List Token → Read L) (see : X → E) (xs : List X) (most i : ℕ) (s : S) (ts : List Token) (total : Read L) → behind cons (map see xs) (F (most - i) s ts) ≡ total → (x : X) (t : S) (after : List Token) → i < most → Next cons F s ts (see x) t after → behind cons (map see (xs ++ x ∷ [])) (F (most - (i + 1)) t after) ≡ total
 goes_on nil cons F see xs most i s ts total so_far x t after lt next =

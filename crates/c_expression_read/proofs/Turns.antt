@@ -8,8 +8,8 @@ use Rattle.c_grammar.specs.declared.token.Token.TheVariants as token
 use Rattle.c_grammar.specs.declared.fault.Fault.{Fault}
 use Rattle.c_grammar.specs.declared.fault.ReadError.{ReadError}
 use Rattle.c_grammar.specs.declared.fault.ReadError.TheVariants as errors
-use Rattle.c_grammar.specs.Grammar.{Scope, begins_post, Expr, Name, Post, no_posts, post, Joint, Infix, Choose, Assign, Comma, Links, no_links, link, Sort, OfInfix, OfChoice, OfAssign, OfComma, Typed, Decl, Decls, no_decls, another, Members, no_members, member, Item, Items, no_items, item, Spec, Specs, no_specs, spec, Suffix, Suffixes, no_suffixes, suffix, More, no_more, param, is_base, or, after, after_joint, after_links, after_post, after_posts, after_decl, after_decls, after_typed, after_members, after_item, after_items, after_spec, after_specs, after_suffix, after_suffixes, after_param, after_more}
-use Rattle.c_grammar.specs.Reading.{◌>>=◌, Read, Inner, Fails, post_at, posts_at, link_at, links_at, level_at, joint_at, choice_at, comma_at, decls_at, ends_braces, members_at, semi_at, next_item, item_at, items_at, begins_spec, spec_at, specs_at, specs_end, array_at, function_at, suffixes_at, more_at}
+use Rattle.c_grammar.specs.Grammar.{Scope, starts_type, begins_post, Expr, Name, Post, no_posts, post, Joint, Infix, Choose, Assign, Comma, Links, no_links, link, Sort, OfInfix, OfChoice, OfAssign, OfComma, Typed, Decl, Decls, no_decls, another, Members, no_members, member, Item, Items, no_items, item, Spec, Specs, no_specs, spec, Suffix, Suffixes, no_suffixes, suffix, More, no_more, param, is_base, or, after, after_joint, after_links, after_post, after_posts, after_decl, after_decls, after_typed, after_members, after_item, after_items, after_spec, after_specs, after_suffix, after_suffixes, after_param, after_more}
+use Rattle.c_grammar.specs.Reading.{◌>>=◌, Read, Inner, Fails, post_at, posts_at, link_at, links_at, level_at, joint_at, choice_at, comma_at, decls_at, ends_braces, members_at, semi_at, next_item, item_at, items_at, begins_spec, spec_at, specs_at, specifiers_at, array_at, function_at, suffixes_at, more_at}
 use Rattle.c_expression_read.specs.Gives.{together_at, begins_suffix, suffix_at}
 use Rattle.c_expression_read.specs.Views.{linked, comma, members}
 use Rattle.c_expression_read.proofs.Heights.{not-eleven-10, not-eleven-12}
@@ -223,13 +223,18 @@ unfolding specs_at
 specs_fails r b s ts errors.Memory e1 f = λ k. tt
 specs_fails r b s ts (errors.Fault d) e1 f = λ k. rw (e1, f) refl
 
-pub specs_stops : (r : Inner) (b : Bool) (s : Scope) (ts : List Token) → begins_spec b s ts ≡ false → (k : ℕ) → based_specs r (suc k) (b, s) ts ≡ specs_end b ts
+pub specs_stops : (r : Inner) (b : Bool) (s : Scope) (ts : List Token) → begins_spec b s ts ≡ false → (k : ℕ) → based_specs r (suc k) (b, s) ts ≡ Ok (no_specs, ts)
 unfolding specs_at
 specs_stops r b s ts e = λ k. rw e refl
 
-pub specs_zero : (r : Inner) (b : Bool) (s : Scope) (ts : List Token) → based_specs r zero (b, s) ts ≡ specs_end b ts
+pub specs_zero : (r : Inner) (b : Bool) (s : Scope) (ts : List Token) → based_specs r zero (b, s) ts ≡ Ok (no_specs, ts)
 unfolding specs_at
 specs_zero r b s ts = refl
+
+-- where one specifier begins, there are specifiers
+pub specs_begun : (r : Inner) (s : Scope) (ts : List Token) → starts_type s ts ≡ true → specs_at r (length ts) false s ts ≡ specifiers_at r s ts
+unfolding specifiers_at
+specs_begun r s ts e = rw e refl
 
 -- ---- arrays and functions
 

@@ -1,6 +1,5 @@
 -- What a reader that takes memory answers, beside what is read.
-use Rattle.std.specs.Prelude.{ℕ, List, [], ◌∷◌, length, Option, Some, None, Result, Ok, Bool, true, false, if◌then◌else◌}
-use Rattle.c_tree.specs.declared.expression.Specifier.{Specifier}
+use Rattle.std.specs.Prelude.{ℕ, List, [], ◌∷◌, length, Option, Some, None, Result, Ok, Bool, true, false}
 use Rattle.c_tree.specs.declared.operator.AssignOperator.{AssignOperator}
 use Rattle.c_tree.specs.declared.operator.BinaryOperator.{BinaryOperator}
 use Rattle.c_tree.specs.declared.operator.PointerMark.{PointerMark}
@@ -61,10 +60,6 @@ called read = read >>= λ x. Ok (Call x.0, x.1)
 -- members that are declared together
 abbrev pub together_at : Inner → Reader (Typed × Decls)
 together_at r s ts = r.typed Named s ts >>= λ x. decls_at r (length x.1) (after_typed x.0 s) x.1 >>= λ d. semi_at d.1 >>= λ rest. Ok ((x.0, d.0), rest)
-
--- specifiers that end here, if there is a base among them
-abbrev pub based_end : Bool → List Specifier → List Token → Read (List Specifier)
-based_end based specifiers ts = if based then Ok (specifiers, ts) else broken ts
 
 abbrev pub begins_suffix : List Token → Bool
 begins_suffix (token.SquareOpen ∷ ts) = true

@@ -3,10 +3,10 @@
 //! Each function takes the number `end` of the token behind the last one of the unit, which the tokens reach to, and how many nestings are left; it
 //! declares in the scope what it reads. Where it answers with a fault, what stands in the scope is not told.
 
-ghost use Rattle.std.specs.Prelude.{◌≡◌, IfOk, List, length, map, false, true};
+ghost use Rattle.std.specs.Prelude.{◌≡◌, IfOk, List, map, false};
 ghost use Rattle.c_grammar.specs.declared.token.Token.{Token as Lexeme};
-ghost use Rattle.c_grammar.specs.Grammar.{Scope as Names, Expr as Tree, Specs, Decl, Typed as TypedTree, after, after_specs, after_decl, after_typed, spell, spell_specs, spell_decl, spell_typed, Fits, FitsSpecs, FitsDecl, FitsTyped, Within, Stops, Ends, NoBraces};
-ghost use Rattle.c_grammar.specs.Reading.{Gives, inner, level_at, specs_at, decl_at, typed_at, begins_spec};
+ghost use Rattle.c_grammar.specs.Grammar.{Scope as Names, Expr as Tree, Specs, Decl, Typed as TypedTree, after, after_specs, after_decl, after_typed, spell, spell_specs, spell_decl, spell_typed, is_based, Fits, FitsSpecifiers, FitsDecl, FitsTyped, Within, Stops, Ends, NoBraces};
+ghost use Rattle.c_grammar.specs.Reading.{Gives, inner, level_at, specifiers_at, decl_at, typed_at, begins_spec};
 ghost use Rattle.c_expression_read.specs.Gives.{IsReadAs};
 ghost use Rattle.c_expression_read.specs.Views.{view, view_declarator, view_typed, view_specifier, specs_of};
 
@@ -83,7 +83,7 @@ pub fn read_constant<'a>(
     conditional(alloc, end, depth, scope, tokens)
 }
 
-/// The specifiers that stand first, one of them a base at least, and the tokens behind them (ISO/IEC 9899:2011, 6.7).
+/// The specifiers that stand first, one at least, and the tokens behind them (ISO/IEC 9899:2011, 6.7).
 pub fn read_specifiers<'a>(
     alloc: Global,
     end: u32,
@@ -91,10 +91,10 @@ pub fn read_specifiers<'a>(
     scope: &mut Scope,
     tokens: &'a [Token],
 ) -> Result<(Vec<Specifier>, &'a [Token]), ReadError>
-    ensures read { Gives (λ x. (specs_of (map view_specifier x.0.items), x.1.now)) result (specs_at (inner depth) (length tokens.now) false scope.old tokens.now) }
+    ensures read { Gives (λ x. (specs_of (map view_specifier x.0.items), x.1.now)) result (specifiers_at (inner depth) scope.old tokens.now) }
     ensures scope { IfOk result (λ x. scope.new ≡ after_specs (specs_of (map view_specifier x.0.items)) scope.old) }
-    ensures found { IfOk result (λ x. (tokens.now ≡ spell_specs (specs_of (map view_specifier x.0.items)) x.1.now) × FitsSpecs depth false scope.old (specs_of (map view_specifier x.0.items))) }
-    ensures only { (specs : Specs) (rest : List Lexeme) → FitsSpecs depth false scope.old specs → ((names : Names) → begins_spec true names rest ≡ false) → NoBraces rest → tokens.now ≡ spell_specs specs rest → IsReadAs specs rest (λ x. (specs_of (map view_specifier x.0.items), x.1.now)) result }
+    ensures found { IfOk result (λ x. (tokens.now ≡ spell_specs (specs_of (map view_specifier x.0.items)) x.1.now) × FitsSpecifiers depth scope.old (specs_of (map view_specifier x.0.items))) }
+    ensures only { (specs : Specs) (rest : List Lexeme) → FitsSpecifiers depth scope.old specs → begins_spec (is_based false specs) (after_specs specs scope.old) rest ≡ false → NoBraces rest → tokens.now ≡ spell_specs specs rest → IsReadAs specs rest (λ x. (specs_of (map view_specifier x.0.items), x.1.now)) result }
 {
     specifiers(alloc, end, depth, scope, tokens)
 }

@@ -1,10 +1,10 @@
 //! Specifiers.
 
-ghost use Rattle.std.specs.Prelude.{◌≡◌, IfOk, length, map, Some, None, false, if◌then◌else◌, Ok};
+ghost use Rattle.std.specs.Prelude.{◌≡◌, IfOk, length, map, Some, None};
 ghost use Rattle.c_grammar.specs.declared.token.Allowed.TheVariants.{Named};
 ghost use Rattle.c_grammar.specs.Grammar.{is_base, or, after_decls, after_members, after_item, after_items, after_spec, after_specs, after_typed};
-ghost use Rattle.c_grammar.specs.Reading.{Gives, inner, decls_at, members_at, struct_body_at, struct_at, valued_at, item_at, items_at, enum_body_at, enum_at, ranked_at, spec_at, specs_at, specs_end};
-ghost use Rattle.c_expression_read.specs.Gives.{together_at, based_end};
+ghost use Rattle.c_grammar.specs.Reading.{Gives, inner, decls_at, members_at, struct_body_at, struct_at, valued_at, item_at, items_at, enum_body_at, enum_at, ranked_at, spec_at, specifiers_at};
+ghost use Rattle.c_expression_read.specs.Gives.{together_at};
 ghost use Rattle.c_expression_read.specs.Views.{view_typed, view_declarator, view_members, view_enumerator, view_specifier, decls_of, members_of, items_of, specs_of};
 
 use crate::declarator::{nested_declarator, nested_typed};
@@ -333,23 +333,9 @@ fn is_based(based: bool, one: &Specifier) -> bool
     based || is_base(one)
 }
 
-// The specifiers that were read, if there is a base among them.
-fn specified(
-    based: bool,
-    specifiers: Vec<Specifier>,
-    tokens: &[Token],
-) -> Result<(Vec<Specifier>, &[Token]), ReadError>
-    ensures { Gives (λ x. (x.0.items, x.1.now)) result (based_end based specifiers.items tokens.now) }
-{
-    if based {
-        Ok((specifiers, tokens))
-    } else {
-        Err(broken(tokens))
-    }
-}
-
-/// Specifiers, with a base among them; behind it a name is none (ISO/IEC 9899:2011, 6.7).
+/// Specifiers, one at least; behind a base a name is none (ISO/IEC 9899:2011, 6.7).
 #[cycle(reader)]
+#[tactic(auto, unfolding(c_grammar::specs::Reading::specifiers_at))]
 pub fn specifiers<'a>(
     alloc: Global,
     end: u32,
@@ -357,20 +343,23 @@ pub fn specifiers<'a>(
     scope: &mut Scope,
     tokens: &'a [Token],
 ) -> Result<(Vec<Specifier>, &'a [Token]), ReadError>
-    ensures read { Gives (λ x. (specs_of (map view_specifier x.0.items), x.1.now)) result (specs_at (inner depth) (length tokens.now) false scope.old tokens.now) }
+    ensures read { Gives (λ x. (specs_of (map view_specifier x.0.items), x.1.now)) result (specifiers_at (inner depth) scope.old tokens.now) }
     ensures scope { IfOk result (λ x. scope.new ≡ after_specs (specs_of (map view_specifier x.0.items)) scope.old) }
 {
+    if !scope.starts_type(tokens) {
+        return Err(broken(tokens));
+    }
     let mut specifiers = Vec::new(alloc);
     let mut based = false;
     let mut rest = tokens;
     'specifiers: for _ in 0..tokens.len() {
         if !begins_specifier(based, scope, rest) {
-            return specified(based, specifiers, rest);
+            return Ok((specifiers, rest));
         }
         let (one, after) = specifier(alloc, end, depth, scope, rest)?;
         based = is_based(based, &one);
         specifiers.push(one)?;
         rest = after;
     }
-    specified(based, specifiers, rest)
+    Ok((specifiers, rest))
 }

@@ -4,12 +4,12 @@ use Rattle.c_grammar.specs.declared.token.Allowed.{Allowed}
 use Rattle.c_grammar.specs.declared.token.Allowed.TheVariants.{Named, Abstract, Either}
 use Rattle.c_grammar.specs.declared.token.Token.{Token}
 use Rattle.c_grammar.specs.declared.token.Token.TheVariants as token
-use Rattle.c_grammar.specs.Grammar.{Ranked, Scope, Expr, Name, Number, Byte, Texts, Paren, Postfix, Prefix, SizeOfExpr, SizeOf, Cast, Chain, Posts, no_posts, post, Post, Index, Call, CallNothing, Member, Arrow, Increment, Decrement, Joint, Infix, Choose, Assign, Comma, Links, no_links, link, begins_post, is_primary, after_joint, after_post, spell_posts, spell_post, FitsJoint, FitsPosts, FitsPost, NoText, Typed, typed, Specs, no_specs, spec, Spec, Keyword, TypeName, Struct, Members, no_members, member, Decl, decl, Core, Absent, Id, Group, Suffixes, no_suffixes, suffix, OpenArray, Array, Function, Params, NoParams, OnlyVoid, Some_params, More, no_more, param, after, after_typed, after_specs, after_spec, after_core, after_param, is_base, or, spell, spell_links, spell_typed, spell_specs, spell_spec, spell_members, spell_decl, spell_core, spell_suffixes, spell_params, spell_more, Fits, FitsLinks, FitsTyped, FitsSpecs, FitsSpec, FitsMembers, FitsDecl, FitsCore, FitsSuffixes, FitsParams, FitsMore, Stops, Ends, StructTag, EnumTag, Enum, Decls, no_decls, another, Item, Plain, Valued, Items, no_items, item, after_decls, after_decl, after_item, spell_decls, spell_item, spell_items, spell_comma, FitsDecls, FitsItem, FitsItems, NoBraces}
-use Rattle.c_grammar.specs.Reading.{primary_at, post_at, posts_at, joint_at, links_at, level_at, members_at, spec_at, specs_at, core_at, more_at, params_at, suffixes_at, decl_at, typed_at, inner, decls_at, item_at, items_at}
+use Rattle.c_grammar.specs.Grammar.{Ranked, Scope, Expr, Name, Number, Byte, Texts, Paren, Postfix, Prefix, SizeOfExpr, SizeOf, Cast, Chain, Posts, no_posts, post, Post, Index, Call, CallNothing, Member, Arrow, Increment, Decrement, Joint, Infix, Choose, Assign, Comma, Links, no_links, link, begins_post, is_primary, after_joint, after_post, spell_posts, spell_post, FitsJoint, FitsPosts, FitsPost, NoText, Typed, typed, Specs, no_specs, spec, Spec, Keyword, TypeName, Struct, Members, no_members, member, Decl, decl, Core, Absent, Id, Group, Suffixes, no_suffixes, suffix, OpenArray, Array, Function, Params, NoParams, OnlyVoid, Some_params, More, no_more, param, after, after_typed, after_specs, after_spec, after_core, after_param, is_base, is_based, or, spell, spell_links, spell_typed, spell_specs, spell_spec, spell_members, spell_decl, spell_core, spell_suffixes, spell_params, spell_more, Fits, FitsLinks, FitsTyped, FitsSpecifiers, FitsSpecs, FitsSpec, FitsMembers, FitsDecl, FitsCore, FitsSuffixes, FitsParams, FitsMore, Stops, Ends, StructTag, EnumTag, Enum, Decls, no_decls, another, Item, Plain, Valued, Items, no_items, item, after_decls, after_decl, after_item, spell_decls, spell_item, spell_items, spell_comma, FitsDecls, FitsItem, FitsItems, NoBraces}
+use Rattle.c_grammar.specs.Reading.{primary_at, post_at, posts_at, joint_at, links_at, level_at, members_at, spec_at, specs_at, specifiers_at, begins_spec, core_at, more_at, params_at, suffixes_at, decl_at, typed_at, inner, decls_at, item_at, items_at}
 use Rattle.c_grammar.proofs.Lengths.{count_links, count_posts, count_specs, count_members, count_decls, count_items, count_suffixes, count_more, grows_links, grows_posts, grows_specs, grows_members, grows_decls, grows_items, grows_suffixes, grows_more}
-use Rattle.c_grammar.proofs.Beginnings.{no_square, some_arguments, primary_first, unary_first, begins, starts_typed, no_close, no_brace, NoSpec, decl_no_spec, core_no_mark, marks_again, decl_no_braces, specs_no_braces, no_list, no_void}
+use Rattle.c_grammar.proofs.Beginnings.{no_square, some_arguments, primary_first, unary_first, begins, starts_typed, starts_specifiers, all_fit, no_close, no_brace, decl_no_spec, core_no_mark, marks_again, decl_no_braces, specs_no_braces, no_list, no_void}
 use Rattle.c_grammar.proofs.Stopping.{stops_lower, no_link, stops_links, post_begins, posts_no_text, braces_more, ends_decls, braces_decls, NoEquals, stops_items, equals_items, ends_more}
-use Rattle.c_grammar.proofs.Steps.{sort_of_joint, joint_rest, link_again, joint_infix, joint_assign, joint_comma, joint_choice, link_stop, link_step, chain_step, lift, low, chain_is, name_step, number_step, byte_step, texts_step, paren_step, posts_stop, posts_step, index_step, arguments_step, call_step, simple_post, member_post, postfix_step, posts_is, alone, prefix_step, prefix_first, size_of_step, size_first, size_step, cast_step, specs_stop, specs_step, word_step, type_step, struct_body_step, struct_step, struct_tag_step, enum_step, enum_tag_step, ranked_step, last_again, enum_body_step, plain_step, valued_step, items_stop, next_again, items_step, decls_stop, decls_step, members_stop, members_step, typed_step, decl_step, id_step, group_step, absent_step, suffix_stop, array_step, function_step, open_step, bound_step, params_none, params_void, params_step, more_stop, more_step}
+use Rattle.c_grammar.proofs.Steps.{sort_of_joint, joint_rest, link_again, joint_infix, joint_assign, joint_comma, joint_choice, link_stop, link_step, chain_step, lift, low, chain_is, name_step, number_step, byte_step, texts_step, paren_step, posts_stop, posts_step, index_step, arguments_step, call_step, simple_post, member_post, postfix_step, posts_is, alone, prefix_step, prefix_first, size_of_step, size_first, size_step, cast_step, specs_stop, specs_step, word_step, type_step, struct_body_step, struct_step, struct_tag_step, enum_step, enum_tag_step, ranked_step, last_again, enum_body_step, plain_step, valued_step, items_stop, next_again, items_step, decls_stop, decls_step, members_stop, members_step, specifiers_step, typed_step, decl_step, id_step, group_step, absent_step, suffix_stop, array_step, function_step, open_step, bound_step, params_none, params_void, params_step, more_stop, more_step}
 
 mutual
   unfolding inner
@@ -102,11 +102,12 @@ mutual
   pub typed_again : (t : Typed) (n : ℕ) (a : Allowed) (s : Scope) (rest : List Token) → FitsTyped n a s t → Ends rest → NoBraces rest → typed_at (inner n) a s (spell_typed t rest) ≡ Ok (t, rest)
   typed_again (typed specs d) n a s rest f e b =
       typed_step (inner n) a s _ (spell_decl d rest) rest specs d
-      (specs_again specs n (length (spell_specs specs (spell_decl d rest))) false s (spell_decl d rest) f.0 (decl_no_spec d rest n a (after_specs specs s) f.1 e) (decl_no_braces d rest b) (omega (arith, grows_specs specs (spell_decl d rest))))
+      (starts_specifiers n s specs (spell_decl d rest) f.0)
+      (specs_again specs n (length (spell_specs specs (spell_decl d rest))) false s (spell_decl d rest) (all_fit n s specs f.0) (decl_no_spec d rest n a (is_based false specs) (after_specs specs s) f.1 f.2 e) (decl_no_braces d rest b) (omega (arith, grows_specs specs (spell_decl d rest))))
       (decl_again d n a (after_specs specs s) rest f.1 e)
 
-  pub specs_again : (specs : Specs) (n m : ℕ) (based : Bool) (s : Scope) (rest : List Token) → FitsSpecs n based s specs → NoSpec rest → NoBraces rest → count_specs specs ≤ m → specs_at (inner n) m based s (spell_specs specs rest) ≡ Ok (specs, rest)
-  specs_again no_specs n m based s rest f none b le = specs_stop (inner n) m based s rest f none
+  pub specs_again : (specs : Specs) (n m : ℕ) (based : Bool) (s : Scope) (rest : List Token) → FitsSpecs n based s specs → begins_spec (is_based based specs) (after_specs specs s) rest ≡ false → NoBraces rest → count_specs specs ≤ m → specs_at (inner n) m based s (spell_specs specs rest) ≡ Ok (specs, rest)
+  specs_again no_specs n m based s rest f none b le = specs_stop (inner n) m based s rest none
   specs_again (spec one more) n zero based s rest f none b le = absurd (omega arith)
   specs_again (spec one more) n (suc m) based s rest f none b le =
       specs_step (inner n) m based s _ (spell_specs more rest) rest one more (begins n based s one (spell_specs more rest) f.0) (spec_again one n based s (spell_specs more rest) f.0 (specs_no_braces more rest b)) (specs_again more n m (or based (is_base one)) (after_spec one s) rest f.1 none b (omega (arith, le)))
@@ -209,3 +210,6 @@ mutual
   more_again (param t more) (suc n) (suc m) s rest f le =
       let tail = spell_more more (token.Close ∷ rest) in
       more_step (inner (suc n)) m s _ tail (token.Close ∷ rest) t more (typed_again t n Either s tail f.0 (ends_more more rest) (braces_more more rest)) (more_again more (suc n) m (after_param t s) rest f.1 (omega (arith, le)))
+
+pub specifiers_again : (specs : Specs) (n : ℕ) (s : Scope) (rest : List Token) → FitsSpecifiers n s specs → begins_spec (is_based false specs) (after_specs specs s) rest ≡ false → NoBraces rest → specifiers_at (inner n) s (spell_specs specs rest) ≡ Ok (specs, rest)
+specifiers_again specs n s rest f none b = specifiers_step (inner n) s _ rest specs (starts_specifiers n s specs rest f) (specs_again specs n (length (spell_specs specs rest)) false s rest (all_fit n s specs f) none b (omega (arith, grows_specs specs rest)))

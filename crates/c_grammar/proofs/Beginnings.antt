@@ -1,5 +1,5 @@
 -- What a tree begins with, and so which reader takes it.
-use Rattle.std.proofs.Common.{◌≡◌, ℕ, zero, suc, Bool, true, false, eqb, List, [], ◌∷◌, None, refl}
+use Rattle.std.proofs.Common.{◌≡◌, ℕ, zero, suc, Bool, true, false, eqb, List, [], ◌∷◌, None, refl, sym, ap, ◌∙◌}
 use Rattle.std.proofs.lemmas.Bool.{eqb-true}
 use Rattle.c_tree.specs.declared.operator.SpecifierWord.TheVariants as word
 use Rattle.c_tree.specs.declared.operator.PointerMark.{PointerMark}
@@ -9,7 +9,7 @@ use Rattle.c_grammar.specs.declared.token.Allowed.{Allowed}
 use Rattle.c_grammar.specs.declared.token.Allowed.TheVariants.{Named, Abstract, Either}
 use Rattle.c_grammar.specs.declared.token.Token.{Token}
 use Rattle.c_grammar.specs.declared.token.Token.TheVariants as token
-use Rattle.c_grammar.specs.Grammar.{Ranked, Scope, starts_type, Expr, Name, Number, Byte, Texts, Paren, Postfix, Prefix, SizeOfExpr, SizeOf, Cast, Chain, is_unary, is_primary, spell_posts, Typed, typed, Specs, no_specs, spec, Spec, Keyword, TypeName, Struct, Decl, decl, Core, Absent, Id, Group, Suffixes, no_suffixes, suffix, OpenArray, Array, Function, Params, NoParams, OnlyVoid, Some_params, More, no_more, param, spell, spell_links, spell_typed, spell_specs, spell_spec, spell_decl, spell_core, spell_suffixes, spell_params, spell_more, spell_marks, ArePointers, Grouped, IsAParam, Fits, FitsTyped, FitsSpec, FitsDecl, FitsParams, Ends, StructTag, EnumTag, Enum, NoBraces}
+use Rattle.c_grammar.specs.Grammar.{Ranked, Scope, starts_type, Expr, Name, Number, Byte, Texts, Paren, Postfix, Prefix, SizeOfExpr, SizeOf, Cast, Chain, is_unary, is_primary, spell_posts, Typed, typed, Specs, no_specs, spec, Spec, Keyword, TypeName, Struct, Decl, decl, Core, Absent, Id, Group, Suffixes, no_suffixes, suffix, OpenArray, Array, Function, Params, NoParams, OnlyVoid, Some_params, More, no_more, param, spell, spell_links, spell_typed, spell_specs, spell_spec, spell_decl, spell_core, spell_suffixes, spell_params, spell_more, spell_marks, ArePointers, Grouped, IsAParam, Fits, after_specs, is_based, NoBase, FitsTyped, FitsSpecifiers, FitsSpecs, FitsSpec, FitsDecl, FitsParams, Ends, StructTag, EnumTag, Enum, NoBraces}
 use Rattle.c_grammar.specs.Reading.{Inner, ends_braces, ends_list, void_at, run_at, marks_at, prefix_of, arguments_at, call_at, postfix_at, size_of_at, size_at, cast_at, begins_spec, opens_list, takes_name, needs_name, bound_at, array_at}
 
 -- ---- what a tree begins with
@@ -146,7 +146,7 @@ begins n true s (Ranked k t) rest f = refl
 begins n false s (Ranked k t) rest f = refl
 
 pub starts_typed : (n : ℕ) (a : Allowed) (s : Scope) (t : Typed) (rest : List Token) → FitsTyped n a s t → starts_type s (spell_typed t rest) ≡ true
-starts_typed n a s (typed no_specs d) rest f = absurd cc
+starts_typed n a s (typed no_specs d) rest f = absurd f.0
 starts_typed n a s (typed (spec (Keyword w) more) d) rest f = refl
 starts_typed n a s (typed (spec (TypeName k) more) d) rest f = f.0.0.1
 starts_typed n a s (typed (spec (StructTag k) more) d) rest f = refl
@@ -169,8 +169,9 @@ no_brace s (_ ∷ ts) e = refl
 
 -- ---- what a declarator begins with
 
+-- no specifier begins here, behind a base or not
 abbrev pub NoSpec : List Token → Type 0
-NoSpec ts = (s : Scope) → begins_spec true s ts ≡ false
+NoSpec ts = (based : Bool) (s : Scope) → begins_spec based s ts ≡ false
 
 abbrev pub NoMark : List Token → Type 0
 NoMark (token.Star ∷ ts) = ⊥
@@ -180,13 +181,19 @@ NoMark _ = Unit {0}
 
 pub end_no_spec : (rest : List Token) → Ends rest → NoSpec rest
 unfolding begins_spec
-end_no_spec [] e = λ s. refl
-end_no_spec (token.Close ∷ ts) e = λ s. refl
-end_no_spec (token.Comma ∷ ts) e = λ s. refl
-end_no_spec (token.Semi ∷ ts) e = λ s. refl
-end_no_spec (token.Equals ∷ ts) e = λ s. refl
-end_no_spec (token.BraceOpen ∷ ts) e = λ s. refl
-end_no_spec _ e = absurd e
+end_no_spec [] e true s = refl
+end_no_spec [] e false s = refl
+end_no_spec (token.Close ∷ ts) e true s = refl
+end_no_spec (token.Close ∷ ts) e false s = refl
+end_no_spec (token.Comma ∷ ts) e true s = refl
+end_no_spec (token.Comma ∷ ts) e false s = refl
+end_no_spec (token.Semi ∷ ts) e true s = refl
+end_no_spec (token.Semi ∷ ts) e false s = refl
+end_no_spec (token.Equals ∷ ts) e true s = refl
+end_no_spec (token.Equals ∷ ts) e false s = refl
+end_no_spec (token.BraceOpen ∷ ts) e true s = refl
+end_no_spec (token.BraceOpen ∷ ts) e false s = refl
+end_no_spec _ e based s = absurd e
 
 pub end_no_mark : (rest : List Token) → Ends rest → NoMark rest
 end_no_mark [] e = tt
@@ -197,17 +204,52 @@ end_no_mark (token.Equals ∷ ts) e = tt
 end_no_mark (token.BraceOpen ∷ ts) e = tt
 end_no_mark _ e = absurd e
 
-pub decl_no_spec : (d : Decl) (rest : List Token) (n : ℕ) (a : Allowed) (s : Scope) → FitsDecl n a s d → Ends rest → NoSpec (spell_decl d rest)
+pub decl_no_spec : (d : Decl) (rest : List Token) (n : ℕ) (a : Allowed) (based : Bool) (s : Scope) → FitsDecl n a s d → NoBase based s d → Ends rest → begins_spec based s (spell_decl d rest) ≡ false
 unfolding begins_spec
-decl_no_spec (decl (mark.Star ∷ ms) core ends) rest n a s f e = λ s. refl
-decl_no_spec (decl (mark.Const ∷ ms) core ends) rest n a s f e = absurd f.0
-decl_no_spec (decl (mark.Restrict ∷ ms) core ends) rest n a s f e = absurd f.0
-decl_no_spec (decl [] (Id k) ends) rest n a s f e = λ s. refl
-decl_no_spec (decl [] (Group d) ends) rest n a s f e = λ s. refl
-decl_no_spec (decl [] Absent no_suffixes) rest n a s f e = end_no_spec rest e
-decl_no_spec (decl [] Absent (suffix OpenArray more)) rest n a s f e = λ s. refl
-decl_no_spec (decl [] Absent (suffix (Array x) more)) rest n a s f e = λ s. refl
-decl_no_spec (decl [] Absent (suffix (Function ps) more)) rest n a s f e = λ s. refl
+decl_no_spec (decl (mark.Star ∷ ms) core ends) rest n a true s f b e = refl
+decl_no_spec (decl (mark.Star ∷ ms) core ends) rest n a false s f b e = refl
+decl_no_spec (decl (mark.Const ∷ ms) core ends) rest n a based s f b e = absurd f.0
+decl_no_spec (decl (mark.Restrict ∷ ms) core ends) rest n a based s f b e = absurd f.0
+decl_no_spec (decl [] (Id k) ends) rest n a true s f b e = refl
+decl_no_spec (decl [] (Id k) ends) rest n a false s f b e = b
+decl_no_spec (decl [] (Group d) ends) rest n a true s f b e = refl
+decl_no_spec (decl [] (Group d) ends) rest n a false s f b e = refl
+decl_no_spec (decl [] Absent no_suffixes) rest n a based s f b e = end_no_spec rest e based s
+decl_no_spec (decl [] Absent (suffix OpenArray more)) rest n a true s f b e = refl
+decl_no_spec (decl [] Absent (suffix OpenArray more)) rest n a false s f b e = refl
+decl_no_spec (decl [] Absent (suffix (Array x) more)) rest n a true s f b e = refl
+decl_no_spec (decl [] Absent (suffix (Array x) more)) rest n a false s f b e = refl
+decl_no_spec (decl [] Absent (suffix (Function ps) more)) rest n a true s f b e = refl
+decl_no_spec (decl [] Absent (suffix (Function ps) more)) rest n a false s f b e = refl
+
+-- a declarator where no specifier begins doesn't begin with a base
+pub no_base : (based : Bool) (s : Scope) (d : Decl) (rest : List Token) → begins_spec based s (spell_decl d rest) ≡ false → NoBase based s d
+unfolding begins_spec
+no_base true s d rest e = tt
+no_base false s (decl (m ∷ ms) core ends) rest e = tt
+no_base false s (decl [] (Id k) ends) rest e = e
+no_base false s (decl [] (Group d) ends) rest e = tt
+no_base false s (decl [] Absent ends) rest e = tt
+
+-- specifiers where one begins are not empty
+pub some_fit : (n : ℕ) (s : Scope) (specs : Specs) (ts rest : List Token) → starts_type s ts ≡ true → ts ≡ spell_specs specs rest → FitsSpecs n false s specs → begins_spec (is_based false specs) (after_specs specs s) rest ≡ false → FitsSpecifiers n s specs
+unfolding begins_spec
+some_fit n s no_specs ts rest b e f none = let no : true ≡ false = sym b ∙ ap (starts_type s) e ∙ none in absurd cc
+some_fit n s (spec one more) ts rest b e f none = f
+
+pub all_fit : (n : ℕ) (s : Scope) (specs : Specs) → FitsSpecifiers n s specs → FitsSpecs n false s specs
+all_fit n s no_specs f = absurd f
+all_fit n s (spec one more) f = f
+
+pub starts_specifiers : (n : ℕ) (s : Scope) (specs : Specs) (rest : List Token) → FitsSpecifiers n s specs → starts_type s (spell_specs specs rest) ≡ true
+starts_specifiers n s no_specs rest f = absurd f
+starts_specifiers n s (spec (Keyword w) more) rest f = refl
+starts_specifiers n s (spec (TypeName k) more) rest f = f.0.1
+starts_specifiers n s (spec (StructTag k) more) rest f = refl
+starts_specifiers n s (spec (Struct tag ms) more) rest f = refl
+starts_specifiers n s (spec (EnumTag k) more) rest f = refl
+starts_specifiers n s (spec (Enum tag i is c) more) rest f = refl
+starts_specifiers n s (spec (Ranked k t) more) rest f = refl
 
 pub core_no_mark : (core : Core) (ends : Suffixes) (rest : List Token) → Ends rest → NoMark (spell_core core (spell_suffixes ends rest))
 core_no_mark (Id k) ends rest e = tt
@@ -336,7 +378,7 @@ void_then no_specs (decl [] Absent no_suffixes) no_more rest p = absurd p
 
 pub no_void : (n : ℕ) (a : Allowed) (s : Scope) (t : Typed) (m : More) (rest : List Token) → FitsTyped n a s t → IsAParam t m → void_at (spell_typed t (spell_more m (token.Close ∷ rest))) ≡ None
 unfolding void_at
-no_void n a s (typed no_specs d) m rest f p = absurd cc
+no_void n a s (typed no_specs d) m rest f p = absurd f.0
 no_void n a s (typed (spec (Keyword word.Void) more) d) m rest f p = void_next _ (void_then more d m rest p)
 no_void n a s (typed (spec (Keyword _) more) d) m rest f p = refl
 no_void n a s (typed (spec (TypeName k) more) d) m rest f p = refl

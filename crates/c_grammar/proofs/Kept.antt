@@ -1,7 +1,6 @@
 -- Names are declared behind the others, so a scope is ended by cutting it off.
-use Rattle.std.proofs.Common.{◌≡◌, ℕ, Bool, List, [], ◌∷◌, ◌++◌, length, take, Option, Some, None, refl, sym, ap, ◌∙◌, append_assoc}
+use Rattle.std.proofs.Common.{◌≡◌, ℕ, Bool, [], ◌∷◌, ◌++◌, length, take, Option, Some, None, refl, sym, ap, ◌∙◌, append_assoc}
 use Rattle.std.proofs.lemmas.List.{append-nil}
-use Rattle.c_grammar.specs.declared.scope.Binding.{Binding}
 use Rattle.c_grammar.specs.Grammar.{Scope, bind, Expr, Name, Number, Byte, Texts, Paren, Postfix, Prefix, SizeOfExpr, SizeOf, Cast, Chain, Posts, no_posts, post, Post, Index, Call, CallNothing, Member, Arrow, Increment, Decrement, Joint, Infix, Choose, Assign, Comma, Links, no_links, link, Typed, typed, Specs, no_specs, spec, Spec, Keyword, TypeName, StructTag, Struct, EnumTag, Enum, Ranked, Members, no_members, member, Decls, no_decls, another, Item, Plain, Valued, Items, no_items, item, Decl, decl, Core, Absent, Id, Group, Suffixes, no_suffixes, suffix, Suffix, OpenArray, Array, Function, Params, NoParams, OnlyVoid, Some_params, More, no_more, param, after, after_links, after_joint, after_posts, after_post, after_typed, after_specs, after_spec, after_members, after_decls, after_item, after_items, after_decl, after_core, after_suffixes, after_suffix, after_param, after_more, inside, name_of, is_typedef}
 
 abbrev pub Longer : Scope → Scope → Type 0

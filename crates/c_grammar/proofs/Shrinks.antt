@@ -1,14 +1,12 @@
 -- What is read leaves fewer tokens.
-use Rattle.std.proofs.Common.{◌≡◌, ℕ, ◌+◌, ◌<◌, ◌≤◌, Bool, true, List, length, Ok, Err, Result, sym, ap, subst, arith}
+use Rattle.std.proofs.Common.{◌≡◌, ℕ, ◌<◌, ◌≤◌, Bool, true, List, length, Ok, Err, Result, ap, subst, arith}
 use Rattle.std.specs.Prelude.{IfOk}
 use Rattle.c_grammar.specs.declared.token.Allowed.{Allowed}
-use Rattle.c_grammar.specs.declared.token.Allowed.TheVariants.{Named}
 use Rattle.c_grammar.specs.declared.token.Token.{Token}
-use Rattle.c_grammar.specs.declared.token.Token.TheVariants as token
 use Rattle.c_grammar.specs.declared.fault.Fault.{Fault}
-use Rattle.c_grammar.specs.Grammar.{Scope, Expr, Post, Typed, Spec, Item, Decl, Decls, Suffix, spell, spell_post, spell_typed, spell_spec, spell_item, spell_decl, spell_suffix}
-use Rattle.c_grammar.specs.Reading.{Inner, Read, inner, level_at, post_at, typed_at, spec_at, item_at, decl_at, array_at, function_at, begins_spec, colon_at, semi_at, decls_at}
-use Rattle.c_grammar.proofs.Sound.{SoundInner, IsPost, IsSpec, IsItem, IsSuffix, inner_sound, level_sound, post_sound, typed_sound, spec_sound, item_sound, decl_sound, array_sound, function_sound, colon_sound, semi_sound, decls_sound}
+use Rattle.c_grammar.specs.Grammar.{Scope, Expr, Post, Typed, Spec, Item, Decl, Decls, Suffix}
+use Rattle.c_grammar.specs.Reading.{inner, level_at, post_at, spec_at, item_at, array_at, function_at, begins_spec, colon_at, semi_at, decls_at}
+use Rattle.c_grammar.proofs.Sound.{inner_sound, level_sound, post_sound, spec_sound, item_sound, array_sound, function_sound, colon_sound, semi_sound, decls_sound}
 use Rattle.c_grammar.proofs.Lengths.{grows, grows_post, grows_typed, grows_spec, grows_item, grows_decl, grows_decls, grows_suffix}
 
 pub holds : {A : Type 0} (m : Result A Fault) (P : A → Type 0) (x : A) → IfOk m P → m ≡ Ok x → P x

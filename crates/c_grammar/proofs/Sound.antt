@@ -9,8 +9,10 @@ use Rattle.c_grammar.specs.declared.token.Allowed.TheVariants.{Named, Abstract, 
 use Rattle.c_grammar.specs.declared.token.Token.{Token}
 use Rattle.c_grammar.specs.declared.token.Token.TheVariants as token
 use Rattle.c_grammar.specs.declared.fault.Fault.{Fault}
-use Rattle.c_grammar.specs.Grammar.{Ranked, Scope, is_type, starts_type, Expr, Name, Number, Byte, Texts, Paren, Postfix, Prefix, SizeOfExpr, SizeOf, Cast, Chain, Posts, no_posts, post, Post, Index, Call, CallNothing, Member, Arrow, Increment, Decrement, Joint, Infix, Choose, Assign, Comma, Links, no_links, link, Sort, OfInfix, OfChoice, OfAssign, OfComma, sort_height, sort_of, begins_post, is_unary, is_primary, takes_operand, after_joint, after_post, sign_of_set, sign_of_prefix, spell_joint, spell_posts, spell_post, spell_texts, Joins, FitsJoint, FitsPosts, FitsPost, Typed, typed, Specs, no_specs, spec, Spec, Keyword, Members, member, Decl, decl, Core, Absent, Id, Group, Suffixes, no_suffixes, Suffix, OpenArray, Array, Function, Params, NoParams, OnlyVoid, Some_params, More, no_more, param, height_of, sign_of, after, after_typed, after_specs, after_spec, after_core, after_suffix, after_param, is_base, or, spell, spell_links, spell_typed, spell_specs, spell_spec, spell_members, spell_decl, spell_core, spell_suffixes, spell_suffix, spell_params, spell_more, spell_marks, ArePointers, Grouped, IsAParam, Fits, FitsLinks, FitsTyped, FitsSpecs, FitsSpec, FitsMembers, FitsDecl, FitsCore, FitsSuffixes, FitsSuffix, FitsParams, FitsMore, Within, WithinDecl, WithinTyped, Decls, another, Item, Plain, Valued, Items, after_decls, after_decl, after_item, spell_decls, spell_item, spell_items, spell_tag, spell_comma, FitsDecls, FitsItem, FitsItems}
-use Rattle.c_grammar.specs.Reading.{ranked_at, ◌>>=◌, Reader, Inner, choose, closed_at, squared_at, braced_at, semi_at, comma_at, ends_braces, ends_list, void_at, run_at, marks_at, colon_at, may_join, picked, link_at, prefix_of, texts_at, paren_at, primary_at, index_at, arguments_at, call_at, post_at, posts_at, with_posts, postfix_at, prefix_at, conversion_at, size_of_at, type_size_at, size_at, cast_at, choice_at, joint_at, links_at, chain, level_at, begins_spec, members_at, struct_at, enum_at, spec_at, specs_at, opens_list, takes_name, needs_name, group_at, core_at, more_at, list_at, params_at, bound_at, array_at, function_at, suffixes_at, decl_at, typed_at, inner, decls_at, struct_body_at, valued_at, item_at, next_item, items_at, last_comma, enum_body_at}
+use Rattle.c_grammar.specs.Grammar.{Scope, is_type, starts_type, Expr, Name, Number, Byte, Texts, Paren, Postfix, Prefix, SizeOfExpr, SizeOf, Cast, Chain, Posts, no_posts, post, Post, Index, Call, CallNothing, Member, Arrow, Increment, Decrement, Joint, Infix, Choose, Assign, Comma, Links, no_links, link, Sort, OfInfix, OfChoice, OfAssign, OfComma, sort_height, sort_of, begins_post, is_unary, is_primary, takes_operand, after_joint, after_post, sign_of_set, sign_of_prefix, spell_joint, spell_posts, spell_post, spell_texts, Joins, FitsJoint, FitsPosts, FitsPost, Typed, typed, Specs, no_specs, spec, Spec, Keyword, Members, member, Decl, decl, Core, Absent, Id, Group, Suffixes, no_suffixes, Suffix, OpenArray, Array, Function, Params, NoParams, OnlyVoid, Some_params, More, no_more, param, height_of, sign_of, after, after_typed, after_specs, after_spec, after_core, after_suffix, after_param, is_base, is_based, or, spell, spell_links, spell_typed, spell_specs, spell_spec, spell_members, spell_decl, spell_core, spell_suffixes, spell_suffix, spell_params, spell_more, spell_marks, ArePointers, Grouped, IsAParam, Fits, FitsLinks, FitsTyped, FitsSpecifiers, FitsSpecs, FitsSpec, FitsMembers, FitsDecl, FitsCore, FitsSuffixes, FitsSuffix, FitsParams, FitsMore, Within, WithinDecl, WithinTyped, Decls, another, Item, Plain, Valued, Items, after_decls, after_decl, after_item, spell_decls, spell_item, spell_items, spell_tag, spell_comma, FitsDecls, FitsItem, FitsItems}
+use Rattle.c_grammar.specs.Reading.{ranked_at, ◌>>=◌, Reader, Inner, choose, closed_at, squared_at, braced_at, semi_at, comma_at, ends_braces, ends_list, void_at, run_at, marks_at, colon_at, may_join, picked, link_at, prefix_of, texts_at, paren_at, primary_at, index_at, arguments_at, call_at, post_at, posts_at, with_posts, postfix_at, prefix_at, conversion_at, size_of_at, type_size_at, size_at, cast_at, choice_at, joint_at, links_at, chain, level_at, begins_spec, members_at, struct_at, enum_at, spec_at, specs_at, specifiers_at, opens_list, takes_name, needs_name, group_at, core_at, more_at, list_at, params_at, bound_at, array_at, function_at, suffixes_at, decl_at, typed_at, inner, decls_at, struct_body_at, valued_at, item_at, next_item, items_at, last_comma, enum_body_at}
+use Rattle.c_grammar.proofs.Lengths.{grows_spec}
+use Rattle.c_grammar.proofs.Beginnings.{no_base, some_fit}
 
 -- ---- steps
 
@@ -18,6 +20,11 @@ use Rattle.c_grammar.specs.Reading.{ranked_at, ◌>>=◌, Reader, Inner, choose,
 pub ok_then : {A B : Type 0} (r : Result A Fault) (f : A → Result B Fault) (P : A → Type 0) (Q : B → Type 0) → IfOk r P → ((x : A) → P x → IfOk (f x) Q) → IfOk (r >>= f) Q
 ok_then (Ok x) f P Q p g = g x p
 ok_then (Err e) f P Q p g = tt
+
+-- what is so is also so
+pub ok_also : {A : Type 0} (r : Result A Fault) (P Q : A → Type 0) → IfOk r P → ((x : A) → P x → Q x) → IfOk r Q
+ok_also (Ok x) P Q p g = g x p
+ok_also (Err e) P Q p g = tt
 
 -- a choice, either way
 pub chosen : {A B : Type 0} (o : Option A) (none : Result B Fault) (some : A → Result B Fault) (P : Option A → Type 0) (Q : B → Type 0) → P o → (P None → IfOk none Q) → ((x : A) → P (Some x) → IfOk (some x) Q) → IfOk (choose o none some) Q
@@ -344,6 +351,12 @@ opens_not Named s ts t e = absurd cc
 opens_not Abstract s ts t e = absurd cc
 opens_not Either s ts t e = absurd cc
 
+none_begins : (based : Bool) (s : Scope) (ts : List Token) → length ts ≤ 0 → begins_spec based s ts ≡ false
+unfolding begins_spec
+none_begins true s [] le = refl
+none_begins false s [] le = refl
+none_begins based s (t ∷ ts) le = absurd (omega (arith, le))
+
 begins_name : (based : Bool) (s : Scope) (k : ℕ) (ts : List Token) → begins_spec based s (token.Name k ∷ ts) ≡ true → (based ≡ false) × (is_type s k ≡ true)
 unfolding begins_spec
 begins_name true s k ts e = absurd cc
@@ -662,17 +675,27 @@ module _ (r : Inner) (n : ℕ) (i : SoundInner r n) where
   spec_sound based s (_ ∷ ts) e = tt
 
   abbrev pub AreSpecs : Bool → Scope → List Token → Specs × List Token → Type 0
-  AreSpecs based s ts y = (ts ≡ spell_specs y.0 y.1) × FitsSpecs n based s y.0
+  AreSpecs based s ts y = (ts ≡ spell_specs y.0 y.1) × FitsSpecs n based s y.0 × (begins_spec (is_based based y.0) (after_specs y.0 s) y.1 ≡ false)
 
-  pub specs_sound : (k : ℕ) (based : Bool) (s : Scope) (ts : List Token) → IfOk (specs_at r k based s ts) (AreSpecs based s ts)
+  pub specs_sound : (k : ℕ) (based : Bool) (s : Scope) (ts : List Token) → length ts ≤ k → IfOk (specs_at r k based s ts) (AreSpecs based s ts)
   unfolding specs_at
-  specs_sound zero based s ts = tested based _ _ _ (λ e. (refl, e)) (λ e. tt)
-  specs_sound (suc k) based s ts =
+  specs_sound zero based s ts le = (refl, tt, none_begins based s ts le)
+  specs_sound (suc k) based s ts le =
       tested (begins_spec based s ts) _ _ _ (λ e.
       ok_then (spec_at r s ts) _ (IsSpec based s ts) _ (spec_sound based s ts e) (λ x p.
-      ok_then (specs_at r k (or based (is_base x.0)) (after_spec x.0 s) x.1) _ (AreSpecs (or based (is_base x.0)) (after_spec x.0 s) x.1) _ (specs_sound k (or based (is_base x.0)) (after_spec x.0 s) x.1) (λ y q.
-      (p.0 ∙ ap (spell_spec x.0) q.0, (p.1, q.1)))))
-      (λ e. tested based _ _ _ (λ e. (refl, e)) (λ e. tt))
+      ok_then (specs_at r k (or based (is_base x.0)) (after_spec x.0 s) x.1) _ (AreSpecs (or based (is_base x.0)) (after_spec x.0 s) x.1) _ (specs_sound k (or based (is_base x.0)) (after_spec x.0 s) x.1 (omega (arith, le, ap length p.0, grows_spec x.0 x.1))) (λ y q.
+      (p.0 ∙ ap (spell_spec x.0) q.0, (p.1, q.1), q.2))))
+      (λ e. (refl, tt, e))
+
+  abbrev pub AreSpecifiers : Scope → List Token → Specs × List Token → Type 0
+  AreSpecifiers s ts y = (ts ≡ spell_specs y.0 y.1) × FitsSpecifiers n s y.0 × (begins_spec (is_based false y.0) (after_specs y.0 s) y.1 ≡ false)
+
+  pub specifiers_sound : (s : Scope) (ts : List Token) → IfOk (specifiers_at r s ts) (AreSpecifiers s ts)
+  unfolding specifiers_at
+  specifiers_sound s ts =
+      tested (starts_type s ts) _ _ _
+      (λ b. ok_also (specs_at r (length ts) false s ts) (AreSpecs false s ts) (AreSpecifiers s ts) (specs_sound (length ts) false s ts (omega arith)) (λ y p. (p.0, some_fit n s y.0 ts y.1 b p.0 p.1 p.2, p.2)))
+      (λ b. tt)
 
   -- declarators
 
@@ -787,9 +810,9 @@ module _ (r : Inner) (n : ℕ) (i : SoundInner r n) where
   pub typed_sound : (a : Allowed) (s : Scope) (ts : List Token) → IfOk (typed_at r a s ts) (λ x. (ts ≡ spell_typed x.0 x.1) × FitsTyped n a s x.0)
   unfolding typed_at
   typed_sound a s ts =
-      ok_then (specs_at r (length ts) false s ts) _ (AreSpecs false s ts) _ (specs_sound (length ts) false s ts) (λ x p.
+      ok_then (specifiers_at r s ts) _ (AreSpecifiers s ts) _ (specifiers_sound s ts) (λ x p.
       ok_then (decl_at r a (after_specs x.0 s) x.1) _ (λ y. (x.1 ≡ spell_decl y.0 y.1) × FitsDecl n a (after_specs x.0 s) y.0) _ (decl_sound a (after_specs x.0 s) x.1) (λ y q.
-      (p.0 ∙ ap (spell_specs x.0) q.0, (p.1, q.1))))
+      (p.0 ∙ ap (spell_specs x.0) q.0, (p.1, q.1, no_base (is_based false x.0) (after_specs x.0 s) y.0 y.1 (ap (begins_spec (is_based false x.0) (after_specs x.0 s)) (sym q.0) ∙ p.2)))))
 
 pub inner_sound : (n : ℕ) → SoundInner (inner n) n
 unfolding inner

@@ -14,8 +14,8 @@ use Rattle.c_grammar.specs.declared.token.Allowed.TheVariants.{Named, Abstract, 
 use Rattle.c_grammar.specs.declared.token.Token.{Token}
 use Rattle.c_grammar.specs.declared.token.Token.TheVariants as token
 use Rattle.c_grammar.specs.Grammar.{Ranked, Scope, is_type, starts_type, Expr, Name, Number, Byte, Texts, Paren, Postfix, Prefix, SizeOfExpr, SizeOf, Cast, Chain, Posts, no_posts, post, Post, Index, Call, CallNothing, Member, Arrow, Increment, Decrement, Joint, Infix, Choose, Assign, Comma, Links, no_links, link, Sort, OfInfix, OfChoice, OfAssign, OfComma, sort_height, begins_post, is_unary, is_primary, takes_operand, after_joint, after_post, sign_of_prefix, spell_joint, spell_texts, Joins, ArePosts, NoText, Typed, typed, Specs, no_specs, spec, Spec, Keyword, TypeName, Struct, Members, no_members, member, Decl, decl, Core, Absent, Id, Group, Suffixes, no_suffixes, suffix, Suffix, OpenArray, Array, Function, Params, NoParams, OnlyVoid, Some_params, More, no_more, param, height_of, after, after_typed, after_specs, after_spec, after_core, after_suffix, after_param, is_base, or, spell, spell_suffixes, IsLinked, Fits, FitsSuffixes, Stops, Ends, StructTag, EnumTag, Enum, Decls, no_decls, another, Item, Plain, Valued, Items, no_items, item, after_decls, after_decl, after_item, spell_item, spell_tag, spell_comma, NoBraces}
-use Rattle.c_grammar.specs.Reading.{ranked_at, Reader, Inner, closed_at, squared_at, braced_at, semi_at, comma_at, ends_braces, ends_list, void_at, marks_at, colon_at, may_join, picked, link_at, prefix_of, texts_at, paren_at, primary_at, index_at, arguments_at, call_at, post_at, posts_at, with_posts, postfix_at, prefix_at, conversion_at, size_of_at, type_size_at, size_at, cast_at, choice_at, joint_at, links_at, chain, level_at, begins_spec, members_at, struct_at, enum_at, spec_at, specs_at, opens_list, group_at, core_at, more_at, list_at, params_at, bound_at, array_at, function_at, suffixes_at, decl_at, typed_at, decls_at, struct_body_at, valued_at, item_at, next_item, items_at, last_comma, enum_body_at}
-use Rattle.c_grammar.proofs.Beginnings.{primary_first, NoSpec, opens_params, takes, needs}
+use Rattle.c_grammar.specs.Reading.{ranked_at, Reader, Inner, closed_at, squared_at, braced_at, semi_at, comma_at, ends_braces, ends_list, void_at, marks_at, colon_at, may_join, picked, link_at, prefix_of, texts_at, paren_at, primary_at, index_at, arguments_at, call_at, post_at, posts_at, with_posts, postfix_at, prefix_at, conversion_at, size_of_at, type_size_at, size_at, cast_at, choice_at, joint_at, links_at, chain, level_at, begins_spec, members_at, struct_at, enum_at, spec_at, specs_at, specifiers_at, opens_list, group_at, core_at, more_at, list_at, params_at, bound_at, array_at, function_at, suffixes_at, decl_at, typed_at, decls_at, struct_body_at, valued_at, item_at, next_item, items_at, last_comma, enum_body_at}
+use Rattle.c_grammar.proofs.Beginnings.{primary_first, opens_params, takes, needs}
 use Rattle.c_grammar.proofs.Stopping.{stops_lower, no_link, sort_of_sign, sort_of_set, NoEquals}
 
 abbrev pub sort_of_joint : Joint → Sort
@@ -190,10 +190,10 @@ pub cast_step : (r : Inner) (s : Scope) (ts mid rest : List Token) (t : Typed) (
 unfolding cast_at conversion_at closed_at
 cast_step r s ts mid rest t e e1 e2 e3 = rw (e1, e2, e3) refl
 
-pub specs_stop : (r : Inner) (m : ℕ) (based : Bool) (s : Scope) (ts : List Token) → based ≡ true → NoSpec ts → specs_at r m based s ts ≡ Ok (no_specs, ts)
+pub specs_stop : (r : Inner) (m : ℕ) (based : Bool) (s : Scope) (ts : List Token) → begins_spec based s ts ≡ false → specs_at r m based s ts ≡ Ok (no_specs, ts)
 unfolding specs_at
-specs_stop r zero based s ts b none = rw b refl
-specs_stop r (suc m) based s ts b none = rw (b, none s) refl
+specs_stop r zero based s ts none = refl
+specs_stop r (suc m) based s ts none = rw none refl
 
 pub specs_step : (r : Inner) (m : ℕ) (based : Bool) (s : Scope) (ts mid rest : List Token) (one : Spec) (more : Specs) → begins_spec based s ts ≡ true → spec_at r s ts ≡ Ok (one, mid) → specs_at r m (or based (is_base one)) (after_spec one s) mid ≡ Ok (more, rest) → specs_at r (suc m) based s ts ≡ Ok (spec one more, rest)
 unfolding specs_at
@@ -289,9 +289,13 @@ pub members_step : (r : Inner) (m : ℕ) (s : Scope) (ts t1 mid rest : List Toke
 unfolding members_at semi_at
 members_step r m s ts t1 mid rest t ds more e1 e2 e3 e4 = rw (e1, e2, e3, e4) refl
 
-pub typed_step : (r : Inner) (a : Allowed) (s : Scope) (ts mid rest : List Token) (specs : Specs) (d : Decl) → specs_at r (length ts) false s ts ≡ Ok (specs, mid) → decl_at r a (after_specs specs s) mid ≡ Ok (d, rest) → typed_at r a s ts ≡ Ok (typed specs d, rest)
-unfolding typed_at
-typed_step r a s ts mid rest specs d e1 e2 = rw (e1, e2) refl
+pub specifiers_step : (r : Inner) (s : Scope) (ts rest : List Token) (specs : Specs) → starts_type s ts ≡ true → specs_at r (length ts) false s ts ≡ Ok (specs, rest) → specifiers_at r s ts ≡ Ok (specs, rest)
+unfolding specifiers_at
+specifiers_step r s ts rest specs e1 e2 = rw (e1, e2) refl
+
+pub typed_step : (r : Inner) (a : Allowed) (s : Scope) (ts mid rest : List Token) (specs : Specs) (d : Decl) → starts_type s ts ≡ true → specs_at r (length ts) false s ts ≡ Ok (specs, mid) → decl_at r a (after_specs specs s) mid ≡ Ok (d, rest) → typed_at r a s ts ≡ Ok (typed specs d, rest)
+unfolding typed_at specifiers_at
+typed_step r a s ts mid rest specs d e1 e2 e3 = rw (e1, e2, e3) refl
 
 pub decl_step : (r : Inner) (a : Allowed) (s : Scope) (ts t1 t2 rest : List Token) (ms : List PointerMark) (core : Core) (ends : Suffixes) → marks_at ts ≡ (ms, t1) → core_at r a s t1 ≡ Ok (core, t2) → suffixes_at r (length t2) (after_core core s) t2 ≡ Ok (ends, rest) → decl_at r a s ts ≡ Ok (decl ms core ends, rest)
 unfolding decl_at

@@ -458,6 +458,17 @@ abbrev pub or : Bool → Bool → Bool
 or true b = true
 or false b = b
 
+-- whether there is a base, before specifiers or among them
+abbrev pub is_based : Bool → Specs → Bool
+is_based based no_specs = based
+is_based based (spec one more) = is_based (or based (is_base one)) more
+
+-- The name of a type behind specifiers without a base is their base, and begins no declarator.
+abbrev pub NoBase : Bool → Scope → Decl → Type 0
+NoBase true s d = Unit {0}
+NoBase false s (decl [] (Id k) ends) = is_type s k ≡ false
+NoBase false s d = Unit {0}
+
 -- a pointer begins with a star
 abbrev pub ArePointers : List PointerMark → Type 0
 ArePointers [] = Unit {0}
@@ -510,7 +521,7 @@ IsAParam (typed (spec (Keyword word.Void) no_specs) (decl [] Absent no_suffixes)
 IsAParam t more = Unit {0}
 
 -- An expression of at most a height, a declarator and so on, in their scopes; what is nested has one nesting less.
--- Behind a base (based) a name is the declarator's, and there is a base.
+-- Behind a base (based) a name is the declarator's. Specifiers are not empty, and need no base.
 abbrev mutual
   pub Fits : ℕ → ℕ → Scope → Expr → Type 0
   Fits n h s (Name k) = is_type s k ≡ false
@@ -557,10 +568,14 @@ abbrev mutual
   FitsPost n s Decrement = Unit {0}
 
   pub FitsTyped : ℕ → Allowed → Scope → Typed → Type 0
-  FitsTyped n a s (typed specs d) = FitsSpecs n false s specs × FitsDecl n a (after_specs specs s) d
+  FitsTyped n a s (typed specs d) = FitsSpecifiers n s specs × FitsDecl n a (after_specs specs s) d × NoBase (is_based false specs) (after_specs specs s) d
+
+  pub FitsSpecifiers : ℕ → Scope → Specs → Type 0
+  FitsSpecifiers n s no_specs = ⊥
+  FitsSpecifiers n s (spec one more) = FitsSpec n false s one × FitsSpecs n (is_base one) (after_spec one s) more
 
   pub FitsSpecs : ℕ → Bool → Scope → Specs → Type 0
-  FitsSpecs n based s no_specs = based ≡ true
+  FitsSpecs n based s no_specs = Unit {0}
   FitsSpecs n based s (spec one more) = FitsSpec n based s one × FitsSpecs n (or based (is_base one)) (after_spec one s) more
 
   pub FitsSpec : ℕ → Bool → Scope → Spec → Type 0

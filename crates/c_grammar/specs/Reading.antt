@@ -314,14 +314,15 @@ spec_at r s (token.Enum ∷ ts) = enum_at r s ts
 spec_at r s (token.DescriptorOfRank ∷ ts) = ranked_at s ts
 spec_at r s ts = broken ts
 
--- there is a base
-abbrev pub specs_end : Bool → List Token → Read Specs
-specs_end based ts = if based then Ok (no_specs, ts) else broken ts
-
+-- at most so many specifiers
 unfoldable pub specs_at : Inner → ℕ → Bool → Reader Specs
-specs_at r zero based s ts = specs_end based ts
+specs_at r zero based s ts = Ok (no_specs, ts)
 specs_at r (suc k) based s ts = if begins_spec based s ts then
-    (spec_at r s ts >>= λ x. specs_at r k (or based (is_base x.0)) (after_spec x.0 s) x.1 >>= λ y. Ok (spec x.0 y.0, y.1)) else specs_end based ts
+    (spec_at r s ts >>= λ x. specs_at r k (or based (is_base x.0)) (after_spec x.0 s) x.1 >>= λ y. Ok (spec x.0 y.0, y.1)) else Ok (no_specs, ts)
+
+-- specifiers; there is one
+unfoldable pub specifiers_at : Inner → Reader Specs
+specifiers_at r s ts = if starts_type s ts then specs_at r (length ts) false s ts else broken ts
 
 -- ---- declarators
 
@@ -380,7 +381,7 @@ unfoldable pub decl_at : Inner → Allowed → Reader Decl
 decl_at r a s ts = core_at r a s (marks_at ts).1 >>= λ x. suffixes_at r (length x.1) (after_core x.0 s) x.1 >>= λ y. Ok (decl (marks_at ts).0 x.0 y.0, y.1)
 
 unfoldable pub typed_at : Inner → Allowed → Reader Typed
-typed_at r a s ts = specs_at r (length ts) false s ts >>= λ x. decl_at r a (after_specs x.0 s) x.1 >>= λ y. Ok (typed x.0 y.0, y.1)
+typed_at r a s ts = specifiers_at r s ts >>= λ x. decl_at r a (after_specs x.0 s) x.1 >>= λ y. Ok (typed x.0 y.0, y.1)
 
 -- ---- within so many nestings
 

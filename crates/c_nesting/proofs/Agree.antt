@@ -7,7 +7,7 @@ use Rattle.c_grammar.specs.declared.token.Token.{Token}
 use Rattle.c_grammar.specs.declared.token.Token.TheVariants as token
 use Rattle.c_grammar.specs.declared.fault.Fault.{Fault}
 use Rattle.c_grammar.specs.Grammar.{Scope, starts_type, begins_post, Expr, Sort, OfInfix, OfChoice, OfAssign, OfComma, is_base, or, after, after_joint, after_post, after_typed, after_spec, after_specs, after_decl, after_decls, after_item, after_core, after_suffix, after_param}
-use Rattle.c_grammar.specs.Reading.{◌>>=◌, Reader, Inner, choose, closed_at, semi_at, comma_at, ends_braces, ends_list, void_at, marks_at, link_at, prefix_of, paren_at, primary_at, index_at, arguments_at, call_at, post_at, posts_at, postfix_at, prefix_at, conversion_at, size_of_at, type_size_at, size_at, cast_at, choice_at, joint_at, links_at, level_at, begins_spec, decls_at, members_at, struct_body_at, struct_at, valued_at, item_at, next_item, items_at, enum_body_at, enum_at, spec_at, specs_at, opens_list, group_at, core_at, more_at, list_at, params_at, bound_at, array_at, function_at, suffixes_at, decl_at, typed_at, inner}
+use Rattle.c_grammar.specs.Reading.{◌>>=◌, Reader, Inner, choose, closed_at, semi_at, comma_at, ends_braces, ends_list, void_at, marks_at, link_at, prefix_of, paren_at, primary_at, index_at, arguments_at, call_at, post_at, posts_at, postfix_at, prefix_at, conversion_at, size_of_at, type_size_at, size_at, cast_at, choice_at, joint_at, links_at, level_at, begins_spec, decls_at, members_at, struct_body_at, struct_at, valued_at, item_at, next_item, items_at, enum_body_at, enum_at, spec_at, specs_at, specifiers_at, opens_list, group_at, core_at, more_at, list_at, params_at, bound_at, array_at, function_at, suffixes_at, decl_at, typed_at, inner}
 use Rattle.c_nesting.specs.Agreeing.{Agrees}
 
 -- ---- steps
@@ -230,6 +230,10 @@ module _ (r q : Inner) (i : Nested r q) where
       both (specs_at r k (or based (is_base x.0)) (after_spec x.0 s) x.1) (specs_at q k (or based (is_base x.0)) (after_spec x.0 s) x.1) _ _ (specs k (or based (is_base x.0)) (after_spec x.0 s) x.1) (λ y. inl refl)))
       (inl refl)
 
+  pub specifiers : (s : Scope) (ts : List Token) → Agrees (specifiers_at r s ts) (specifiers_at q s ts)
+  unfolding specifiers_at
+  specifiers s ts = tested (starts_type s ts) _ _ _ _ (specs (length ts) false s ts) (inl refl)
+
   -- ---- declarators
 
   group : (a : Allowed) (s : Scope) (ts : List Token) → Agrees (group_at r a s ts) (group_at q a s ts)
@@ -294,7 +298,7 @@ module _ (r q : Inner) (i : Nested r q) where
   pub specified : (a : Allowed) (s : Scope) (ts : List Token) → Agrees (typed_at r a s ts) (typed_at q a s ts)
   unfolding typed_at
   specified a s ts =
-      both (specs_at r (length ts) false s ts) (specs_at q (length ts) false s ts) _ _ (specs (length ts) false s ts) (λ x.
+      both (specifiers_at r s ts) (specifiers_at q s ts) _ _ (specifiers s ts) (λ x.
       both (decl_at r a (after_specs x.0 s) x.1) (decl_at q a (after_specs x.0 s) x.1) _ _ (declarator a (after_specs x.0 s) x.1) (λ y. inl refl))
 
 -- one nesting more

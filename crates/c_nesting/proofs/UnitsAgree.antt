@@ -1,14 +1,14 @@
 -- Declarations, statements and external declarations are read the same with more nestings, unless a nesting too many stopped the reading.
-use Rattle.std.proofs.Common.{ℕ, zero, suc, Bool, false, List, [], ◌∷◌, length, refl, inl, inr}
+use Rattle.std.proofs.Common.{ℕ, zero, suc, Bool, List, [], ◌∷◌, length, refl, inl, inr}
 use Rattle.c_grammar.specs.declared.token.Allowed.TheVariants.{Named}
 use Rattle.c_grammar.specs.declared.token.Token.{Token}
 use Rattle.c_grammar.specs.declared.token.Token.TheVariants as token
 use Rattle.c_grammar.specs.Grammar.{Scope, starts_type, bind, Expr, Specs, Decl, after, after_specs, after_decl, name_of, is_typedef}
-use Rattle.c_grammar.specs.Reading.{Reader, colon_at, comma_at, ends_braces, level_at, specs_at, decl_at, inner}
+use Rattle.c_grammar.specs.Reading.{Reader, colon_at, comma_at, ends_braces, level_at, specifiers_at, decl_at, inner}
 use Rattle.c_unit_grammar.specs.Statements.{Initial, after_initial, declared, after_value, after_init, after_declaration, Stmt, Items, after_optional, after_start, after_stmt, body_scope}
-use Rattle.c_unit_grammar.specs.Reading.{ends_semi, ends_parens, equals_at, brace_at, else_at, while_word, next_initial, initials_at, braced_initial, plain_initial, initial_at, initial_in, value_at, init_at, inits_at, behind_at, declares_at, declaration_at, declaration_in, test_at, optional_at, next_at, items_at, block_at, block_in, if_at, switch_at, case_at, default_at, while_at, do_while_at, start_at, for_rest, for_at, return_at, do_at, stmt_at, stmt_in, body_at, outer_at, ext_at}
+use Rattle.c_unit_grammar.specs.Reading.{ends_semi, ends_parens, equals_at, brace_at, else_at, while_word, next_initial, initials_at, braced_initial, plain_initial, initial_at, initial_in, value_at, init_at, inits_at, behind_at, declares_at, declaration_at, declarators_at, declarators_in, test_at, optional_at, next_at, items_at, block_at, block_in, if_at, switch_at, case_at, default_at, while_at, do_while_at, start_at, for_rest, for_at, return_at, do_at, stmt_at, stmt_in, body_at, outer_at, ext_at}
 use Rattle.c_nesting.specs.Agreeing.{Agrees}
-use Rattle.c_nesting.proofs.Agree.{same, both, chosen, tested, level, specs, declarator, one_more}
+use Rattle.c_nesting.proofs.Agree.{same, both, chosen, tested, level, specifiers, declarator, one_more}
 
 -- two readers agree on each text
 abbrev Alike : {A : Type 0} → Reader A → Reader A → Type 0
@@ -78,13 +78,18 @@ declares n ss s ts =
 declaration : (n : ℕ) → Alike (declaration_at n) (declaration_at (suc n))
 unfolding declaration_at
 declaration n s ts =
-    both (specs_at (inner n) (length ts) false s ts) (specs_at (inner (suc n)) (length ts) false s ts) _ _ (specs (inner n) (inner (suc n)) (one_more n) (length ts) false s ts) (λ x.
+    both (specifiers_at (inner n) s ts) (specifiers_at (inner (suc n)) s ts) _ _ (specifiers (inner n) (inner (suc n)) (one_more n) s ts) (λ x.
     chosen (ends_semi x.1) _ _ _ _ (declares n x.0 (after_specs x.0 s) x.1) (λ rest. inl refl))
 
-declaration_nested : (n : ℕ) → Alike (declaration_in n) (declaration_in (suc n))
-unfolding declaration_in
-declaration_nested zero s ts = inr (length ts, refl)
-declaration_nested (suc n) s ts = declaration n s ts
+declarators : (n : ℕ) → Alike (declarators_at n) (declarators_at (suc n))
+unfolding declarators_at
+declarators n s ts =
+    both (specifiers_at (inner n) s ts) (specifiers_at (inner (suc n)) s ts) _ _ (specifiers (inner n) (inner (suc n)) (one_more n) s ts) (λ x. declares n x.0 (after_specs x.0 s) x.1)
+
+declarators_nested : (n : ℕ) → Alike (declarators_in n) (declarators_in (suc n))
+unfolding declarators_in
+declarators_nested zero s ts = inr (length ts, refl)
+declarators_nested (suc n) s ts = declarators n s ts
 
 -- ---- statements
 
@@ -109,7 +114,7 @@ start : (n : ℕ) → Alike (start_at n) (start_at (suc n))
 unfolding start_at
 start n s ts =
     tested (starts_type s ts) _ _ _ _
-    (both (declaration_in n s ts) (declaration_in (suc n) s ts) _ _ (declaration_nested n s ts) (λ x. inl refl))
+    (both (declarators_in n s ts) (declarators_in (suc n) s ts) _ _ (declarators_nested n s ts) (λ x. inl refl))
     (both (optional_at ((inner n).expr 13) s ts) (optional_at ((inner (suc n)).expr 13) s ts) _ _ (optional ((inner n).expr 13) ((inner (suc n)).expr 13) (nested_expr n) s ts) (λ x. inl refl))
 
 items : (n : ℕ) (sub sup : Reader Stmt) → Alike sub sup → (k : ℕ) → Alike (items_at n sub k) (items_at (suc n) sup k)
@@ -231,5 +236,5 @@ outer n ss s ts =
 pub external : (n : ℕ) → Alike (ext_at n) (ext_at (suc n))
 unfolding ext_at
 external n s ts =
-    both (specs_at (inner n) (length ts) false s ts) (specs_at (inner (suc n)) (length ts) false s ts) _ _ (specs (inner n) (inner (suc n)) (one_more n) (length ts) false s ts) (λ x.
+    both (specifiers_at (inner n) s ts) (specifiers_at (inner (suc n)) s ts) _ _ (specifiers (inner n) (inner (suc n)) (one_more n) s ts) (λ x.
     chosen (ends_semi x.1) _ _ _ _ (outer n x.0 (after_specs x.0 s) x.1) (λ rest. inl refl))

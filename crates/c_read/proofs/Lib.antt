@@ -1,2 +1,4 @@
+pub mod Deepening
+pub mod Endings
 pub mod Whole
 pub mod Words

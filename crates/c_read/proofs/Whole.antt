@@ -1,5 +1,5 @@
 -- What is read of a file, and where it breaks its first rule.
-use Rattle.std.proofs.Common.{◌≡◌, ℕ, zero, suc, ◌-◌, ◌<◌, ◌≤◌, true, List, [], ◌∷◌, length, Some, Result, Ok, Err, refl, sym, ap, subst, ◌∙◌, arith}
+use Rattle.std.proofs.Common.{◌≡◌, ℕ, zero, suc, ◌+◌, ◌-◌, ◌<◌, ◌≤◌, true, List, [], ◌∷◌, length, drop, Option, Some, None, Result, Ok, Err, refl, sym, ap, subst, ◌∙◌, arith}
 use Rattle.std.specs.Prelude.{slice_get, IsErr}
 use Rattle.jf_base.specs.declared.place.Place.{Place}
 use Rattle.jf_base.specs.declared.tag.Tag.{Tag}
@@ -16,8 +16,11 @@ use Rattle.c_word_laws.proofs.Units.{no_file}
 use Rattle.c_external_read.specs.declared.file.BrokenExternal.{BrokenExternal}
 use Rattle.c_external_read.specs.Files.{deepest, externals_at, BreaksAt}
 use Rattle.c_external_read.proofs.Files.{is_file, is_externals, breaks}
-use Rattle.c_read.specs.Reading.{File, file_of, words_in, places_in, tag_of, number_by, place_or, refused_at, Stop, file_or, read_file}
-use Rattle.c_read.specs.BrokenAt.{StandsAt, BeginsNone, Breaks, no_form, too_nested, BrokenAt, IsFileOf}
+use Rattle.c_read.specs.Reading.{File, file_of, words_in, places_in, tag_of, place_or, refused_at, Stop, stop_of, file_or, read_file}
+use Rattle.c_read.specs.Nesting.{too_deep_at, nested_by, told_of}
+use Rattle.c_read.specs.BrokenAt.{StandsAt, StandsIn, BeginsNone, Breaks, no_form, deep_brackets, too_nested, BrokenAt, IsFileOf}
+use Rattle.c_read.proofs.Deepening.{Found, found}
+use Rattle.c_read.proofs.Endings.{left_is}
 use Rattle.c_read.proofs.Words.{places_and_words}
 
 -- what the external declarations of a text are read as
@@ -46,35 +49,46 @@ some_left ts [] before b e f is = let both = sym e ∙ is_externals deepest [] t
 some_left ts (t ∷ rest) before b e f is = omega arith
 
 module _ (tokens : List CSpanned) (s : Scope) (ts : List Token) (place : Place) (tag : Tag) (some : 0 < length ts) (le : length ts ≤ length (words_in tokens)) where
-  by_kind : (kind : Kind) (left : ℕ) → ext_at deepest s ts ≡ Err (record { kind = kind; left = left }) → BeginsNone deepest s ts → (kind ≡ Form → (n : ℕ) → BeginsNone n s ts) → place ≡ place_or (slice_get (places_in tokens) (number_by kind (length (places_in tokens)) (length ts) left)) → tag ≡ tag_of kind → Breaks tokens s ts place tag
-  by_kind Form left fails none formless at t =
+  -- a place counted from the first of the words
+  stands_in : (left : ℕ) → place ≡ place_or (slice_get (places_in tokens) (length (places_in tokens) - length ts + (length ts - left - 1))) → StandsIn tokens ts left place
+  stands_in left at =
+      let many = places_and_words tokens in
+      stands tokens place (length (words_in tokens) - length ts + (length ts - left - 1)) (length (places_in tokens) - length ts + (length ts - left - 1)) (omega (arith, many)) (omega (arith, many, some, le)) at
+
+  -- no form, and perhaps a nesting too many
+  by_nesting : (left : ℕ) → ((n : ℕ) → BeginsNone n s ts) → (o : Option ℕ) → Found 0 ts o → place ≡ (stop_of (places_in tokens) (nested_by (record { left = length ts; fault = record { kind = Form; left = left } }) o)).0 → tag ≡ (stop_of (places_in tokens) (nested_by (record { left = length ts; fault = record { kind = Form; left = left } }) o)).1 → Breaks tokens s ts place tag
+  by_nesting left none None shallow at t =
       let many = places_and_words tokens in
       no_form t (record {
-        none = formless refl;
+        none = none;
+        shallow = shallow;
         number = length (words_in tokens) - length ts;
         counted = omega (arith, le);
         stands = stands tokens place (length (words_in tokens) - length ts) (length (places_in tokens) - length ts) (omega (arith, many)) (omega (arith, many, some, le)) at;
       })
-  by_kind Deep left fails none formless at t =
-      let many = places_and_words tokens in
-      too_nested t (record {
-        none = none;
-        left = left;
-        stops = fails;
-        stands = stands tokens place (length (words_in tokens) - left - 1) (length (places_in tokens) - left - 1) (omega (arith, many)) (omega (arith, many, some, le)) at;
-      })
+  by_nesting left none (Some opening) o at t = deep_brackets t (record { none = none; left = opening; opening = o; stands = stands_in opening at })
 
-broken : (tokens : List CSpanned) (place : Place) (tag : Tag) (b : BrokenExternal) → reading tokens ≡ Err b → BreaksAt deepest [] (words_in tokens) b → place ≡ refused_at (places_in tokens) b → tag ≡ tag_of b.fault.kind → BrokenAt tokens place tag
+  by_kind : (kind : Kind) (left : ℕ) → ext_at deepest s ts ≡ Err (record { kind = kind; left = left }) → BeginsNone deepest s ts → (kind ≡ Form → (n : ℕ) → BeginsNone n s ts) → drop (length (words_in tokens) - length ts) (words_in tokens) ≡ ts → let b : BrokenExternal = told_of (words_in tokens) (record { left = length ts; fault = record { kind = kind; left = left } }) in place ≡ refused_at (places_in tokens) b → tag ≡ tag_of b.fault.kind → Breaks tokens s ts place tag
+  by_kind Form left fails none formless last at t =
+      let same = ap (too_deep_at 0) last in
+      by_nesting left (formless refl) (too_deep_at 0 ts) (found 0 ts (omega arith))
+      (at ∙ ap (λ (o : Option ℕ). (stop_of (places_in tokens) (nested_by (record { left = length ts; fault = record { kind = Form; left = left } }) o)).0) same)
+      (t ∙ ap (λ (o : Option ℕ). (stop_of (places_in tokens) (nested_by (record { left = length ts; fault = record { kind = Form; left = left } }) o)).1) same)
+  by_kind Deep left fails none formless last at t = too_nested t (record { none = none; left = left; stops = fails; stands = stands_in left at })
+
+broken : (tokens : List CSpanned) (place : Place) (tag : Tag) (b : BrokenExternal) → reading tokens ≡ Err b → BreaksAt deepest [] (words_in tokens) b → let c : BrokenExternal = told_of (words_in tokens) b in place ≡ refused_at (places_in tokens) c → tag ≡ tag_of c.fault.kind → BrokenAt tokens place tag
 broken tokens place tag b e stop at t =
     let long : length (words_in tokens) ≡ length (spell_exts stop.first.before stop.rest) = ap length stop.first.spelled in
     let some = some_left (words_in tokens) stop.rest stop.first.before b e stop.first.fits stop.first.spelled in
-    let same = ap (λ (k : ℕ). place_or (slice_get (places_in tokens) (number_by b.fault.kind (length (places_in tokens)) k b.fault.left))) (sym stop.left) in
+    let told = λ (k : ℕ). told_of (words_in tokens) (record { left = k; fault = b.fault }) in
     record {
       before = stop.first.before;
       fits = stop.first.fits;
       rest = stop.rest;
       spelled = stop.first.spelled;
-      breaks = by_kind tokens (after_exts stop.first.before []) stop.rest place tag some (omega (arith, long, grows_exts stop.first.before stop.rest)) b.fault.kind b.fault.left stop.fault stop.first.none (λ form n. stop.formless form n) (at ∙ same) t;
+      breaks = by_kind tokens (after_exts stop.first.before []) stop.rest place tag some (omega (arith, long, grows_exts stop.first.before stop.rest)) b.fault.kind b.fault.left stop.fault stop.first.none (λ form n. stop.formless form n)
+          (left_is stop.first.before (words_in tokens) stop.rest stop.first.spelled)
+          (at ∙ ap (λ (k : ℕ). refused_at (places_in tokens) (told k)) (sym stop.left)) (t ∙ ap (λ (k : ℕ). tag_of (told k).fault.kind) (sym stop.left));
     }
 
 -- ---- files
@@ -103,7 +117,8 @@ file_is_read tokens xs f is = ap (file_or tokens) (is_externals deepest [] (word
 broken_by : (tokens : List CSpanned) (place : Place) (tag : Tag) (r : Result (List Ext) BrokenExternal) → reading tokens ≡ r → file_or tokens r ≡ Err (place, tag) → BrokenAt tokens place tag
 broken_by tokens place tag (Ok xs) q e = absurd cc
 broken_by tokens place tag (Err b) q e =
-    let same = sym (stop_is (refused_at (places_in tokens) b, tag_of b.fault.kind) (place, tag) e) in
+    let c = told_of (words_in tokens) b in
+    let same = sym (stop_is (refused_at (places_in tokens) c, tag_of c.fault.kind) (place, tag) e) in
     let stop = breaks deepest (length (words_in tokens)) [] (words_in tokens) b (omega arith) q in
     broken tokens place tag b q stop (ap (λ (x : Stop). x.0) same) (ap (λ (x : Stop). x.1) same)
 

@@ -18,7 +18,8 @@ use Rattle.c_external_read.specs.declared.file.ExternalsError.{ExternalsError}
 use Rattle.c_external_read.specs.declared.file.ExternalsError.TheVariants.{Memory, Broken}
 use Rattle.c_external_read.specs.Files as externals
 use Rattle.c_external_read.specs.Files.{deepest, externals_at}
-use Rattle.c_read.specs.Reading.{words_in, places_in, counts_in, tag_of, refused_at, file_or, read_file}
+use Rattle.c_read.specs.Reading.{words_in, places_in, counts_in, stop_of, file_or, read_file}
+use Rattle.c_read.specs.Nesting.{told_of}
 use Rattle.c_read.specs.Views.{Answers, view_unit, refused}
 
 -- ---- there are no more words than tokens
@@ -62,9 +63,9 @@ module _ (ts : List CSpanned) (w : Words) (are : AreWords ts w) where
   pub is_read : (xs : List Ext) → externals_at deepest (length w.words) [] w.words ≡ Ok xs → read_file ts ≡ Ok (record { names = w.names; literals = w.literals; places = w.places; externals = xs })
   is_read xs e = read_by (Ok xs) e ∙ sym (λ i. Ok (record { names = are.names i; literals = are.literals i; places = are.places i; externals = xs }))
 
-  pub is_refused : {X : Type 0} (view : X → List Ext) (e : ExternalsError) → externals.Answers view (Err e) (externals_at deepest (length w.words) [] w.words) → Answers view_unit (Err (refused w.places e)) (read_file ts)
+  pub is_refused : {X : Type 0} (view : X → List Ext) (e : ExternalsError) → externals.Answers view (Err e) (externals_at deepest (length w.words) [] w.words) → Answers view_unit (Err (refused w.words w.places e)) (read_file ts)
   is_refused view Memory a = tt
-  is_refused view (Broken b) a = read_by (Err b) a ∙ sym (λ i. Err (refused_at (are.places i) b, tag_of b.fault.kind))
+  is_refused view (Broken b) a = read_by (Err b) a ∙ sym (λ i. Err (stop_of (are.places i) (told_of (are.words i) b)))
 
   pub is_counted : (xs : List External) → AreCounted w.counts w.words xs → AreCounted (counts_in ts) (words_in ts) xs
   is_counted xs c = subst (λ (us : List Token). AreCounted (counts_in ts) us xs) are.words (subst (λ (ns : List ℕ). AreCounted ns w.words xs) are.counts c)

@@ -1,3 +1,4 @@
+pub mod Nesting
 pub mod Reading
 pub mod Views
 pub mod BrokenAt

@@ -1,5 +1,5 @@
 -- Reading a file from its tokens, with the place of the first external declaration that breaks a rule (ISO/IEC 9899:2011, 6.9).
-use Rattle.std.specs.Prelude.{ℕ, ◌-◌, List, [], length, map, slice_get, Option, Some, None, Result, Ok, Err}
+use Rattle.std.specs.Prelude.{ℕ, ◌+◌, ◌-◌, List, [], length, map, slice_get, Option, Some, None, Result, Ok, Err}
 use Rattle.jf_base.specs.declared.place.Place.{Place}
 use Rattle.jf_base.specs.declared.tag.Tag.{Tag}
 use Rattle.c_token.specs.declared.token.CSpanned.{CSpanned}
@@ -11,6 +11,7 @@ use Rattle.c_words.specs.Numbering.{names_of, literals_of, words_of, place_of, c
 use Rattle.c_unit_grammar.specs.Statements.{Ext}
 use Rattle.c_external_read.specs.declared.file.BrokenExternal.{BrokenExternal}
 use Rattle.c_external_read.specs.Files.{deepest, externals_at}
+use Rattle.c_read.specs.Nesting.{told_of}
 
 -- the words of a text
 abbrev pub words_in : List CSpanned → List Token
@@ -44,11 +45,11 @@ rule_number Deep = 602
 abbrev pub tag_of : Kind → Tag
 tag_of k = record { 0 = rule_number k }
 
--- The number of the word that breaks a rule, of so many words: the first of the external declaration that has no form, or the one before the first word that
--- is nested too deep, which opens that nesting.
+-- The number of the word that breaks a rule, of so many words: the first of the external declaration that has no form, or the one in it before the first word
+-- that is nested too deep, which opens that nesting.
 abbrev pub number_by : Kind → ℕ → ℕ → ℕ → ℕ
 number_by Form words begins left = words - begins
-number_by Deep words begins left = words - left - 1
+number_by Deep words begins left = words - begins + (begins - left - 1)
 
 abbrev pub number_of : ℕ → BrokenExternal → ℕ
 number_of words b = number_by b.fault.kind words b.left b.fault.left
@@ -67,9 +68,12 @@ Stop = Place × Tag
 
 -- ---- the whole
 
+abbrev pub stop_of : List Place → BrokenExternal → Stop
+stop_of places b = (refused_at places b, tag_of b.fault.kind)
+
 abbrev pub file_or : List CSpanned → Result (List Ext) BrokenExternal → Result File Stop
 file_or ts (Ok xs) = Ok (file_of ts xs)
-file_or ts (Err b) = Err (refused_at (places_in ts) b, tag_of b.fault.kind)
+file_or ts (Err b) = Err (stop_of (places_in ts) (told_of (words_in ts) b))
 
 -- the external declarations of a file, or its first broken rule with its place
 unfoldable pub read_file : List CSpanned → Result File Stop

@@ -7,6 +7,8 @@ use Rattle.c_tree.specs.declared.unit.CUnit.{CUnit}
 use Rattle.c_external_read.specs.Views.{view_external}
 use Rattle.c_external_read.specs.declared.file.ExternalsError.{ExternalsError}
 use Rattle.c_external_read.specs.declared.file.ExternalsError.TheVariants as externals
+use Rattle.c_grammar.specs.declared.token.Token.{Token}
+use Rattle.c_read.specs.Nesting.{told_of}
 use Rattle.c_read.specs.Reading.{File, Stop, refused_at, tag_of}
 
 abbrev pub view_unit : CUnit → File
@@ -18,7 +20,7 @@ Answers view (Ok x) read = read ≡ Ok (view x)
 Answers view (Err Memory) read = Unit {0}
 Answers view (Err (At place tag)) read = read ≡ Err (place, tag)
 
--- why a file is refused whose words stand at these places
-abbrev pub refused : List Place → ExternalsError → Refusal
-refused places externals.Memory = Memory
-refused places (externals.Broken b) = At (refused_at places b) (tag_of b.fault.kind)
+-- why a file is refused that has these words at these places
+abbrev pub refused : List Token → List Place → ExternalsError → Refusal
+refused words places externals.Memory = Memory
+refused words places (externals.Broken b) = At (refused_at places (told_of words b)) (tag_of (told_of words b).fault.kind)

@@ -2,6 +2,7 @@
 #![tactic(auto)]
 
 mod laws;
+mod nesting;
 mod reading;
 mod refusing;
 

@@ -36,15 +36,16 @@ fn read_words(alloc: Global, tokens: &[CSpanned], words: Words) -> Result<CUnit,
             places,
             externals: List::from_vec(externals),
         }),
-        Err(error) => Err(refused(places.as_slice(), error)),
+        Err(error) => Err(refused(words.as_slice(), places.as_slice(), error)),
     }
 }
 
 /// The external declarations of a file from its tokens behind the preprocessor, with its names, its string literals and the places of its words
 /// (ISO/IEC 9899:2011, 6.9; a file may be empty). A function's definition tells how many of the tokens are its own. Otherwise the first external declaration
 /// that breaks a rule, by the tag of the rule and where: G01 where it has no form, at its first token; G02 where more than 64 nestings are open in it, at the
-/// token behind which the nesting too many begins. An external declaration is read from left to right, and the first of the two that is met is told. A text
-/// of the preprocessor has fewer tokens than asked here.
+/// token behind which the nesting too many begins. An external declaration is read from left to right up to what is wrong in it; where that is its form,
+/// G02 is told before it if more than 64 parentheses, brackets and braces are open up to its end. A text of the preprocessor has fewer tokens than asked
+/// here.
 pub fn read_c(alloc: Global, tokens: &[CSpanned]) -> Result<CUnit, Refusal>
     requires { length tokens.now < 2 ^ 32 }
     ensures read { Answers view_unit result (read_file tokens.now) }

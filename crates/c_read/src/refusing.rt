@@ -5,8 +5,9 @@ ghost use Rattle.jf_base.specs.declared.place.Refusal.TheVariants.{At};
 ghost use Rattle.c_read.specs.Reading.{number_of, tag_of, place_or, refused_at};
 ghost use Rattle.c_read.specs.Views.{refused};
 
+use crate::nesting::told;
 use c_external_read::{BrokenExternal, ExternalsError};
-use c_grammar::Kind;
+use c_grammar::{Kind, Token};
 use jf_base::{Place, Refusal, Tag};
 
 // The number of the word that breaks a rule.
@@ -15,7 +16,13 @@ fn number_of(words: usize, broken: BrokenExternal) -> usize
 {
     match broken.fault.kind {
         Kind::Form => words.saturating_sub(broken.left),
-        Kind::Deep => words.saturating_sub(broken.fault.left).saturating_sub(1),
+        Kind::Deep => {
+            let before = broken
+                .left
+                .saturating_sub(broken.fault.left)
+                .saturating_sub(1);
+            words.saturating_sub(broken.left) + before
+        }
     }
 }
 
@@ -51,12 +58,12 @@ fn refused_at(places: &[Place], broken: BrokenExternal) -> Refusal
     }
 }
 
-/// The refusal of a file whose words stand at these places.
-pub fn refused(places: &[Place], error: ExternalsError) -> Refusal
-    ensures { result ≡ refused places.now error }
+/// The refusal of a file that has these words at these places.
+pub fn refused(words: &[Token], places: &[Place], error: ExternalsError) -> Refusal
+    ensures { result ≡ refused words.now places.now error }
 {
     match error {
         ExternalsError::Memory => Refusal::Memory,
-        ExternalsError::Broken(broken) => refused_at(places, broken),
+        ExternalsError::Broken(broken) => refused_at(places, told(words, broken)),
     }
 }

@@ -6,13 +6,13 @@ ghost use Rattle.std.specs.Option.{option_map};
 ghost use Rattle.c_grammar.specs.Grammar.{after};
 ghost use Rattle.c_grammar.specs.Reading.{Gives, inner, level_at};
 ghost use Rattle.c_unit_grammar.specs.Statements.{after_declaration, after_optional, after_start};
-ghost use Rattle.c_unit_grammar.specs.Reading.{declaration_in, test_at, optional_at, next_at, start_at};
+ghost use Rattle.c_unit_grammar.specs.Reading.{declarators_in, test_at, optional_at, next_at, start_at};
 ghost use Rattle.c_expression_read.specs.Views.{view};
 ghost use Rattle.c_declaration_read.specs.Views.{view_declaration};
 ghost use Rattle.c_statement_read.specs.Views.{view_start};
 
 use crate::word::ends_parentheses;
-use c_declaration_read::{ends_declaration, read_declaration};
+use c_declaration_read::{ends_declaration, read_declarators};
 use c_expression_read::{broken, closed, deep, ended, read_expression, read_nested_expression};
 use c_grammar::{ReadError, Token};
 use c_scope::Scope;
@@ -107,25 +107,25 @@ pub fn optional_value<'a>(
     }
 }
 
-/// A declaration one nesting down.
-#[tactic(auto, unfolding(c_unit_grammar::specs::Reading::declaration_in))]
-fn nested_declaration<'a>(
+// A declaration with declarators one nesting down.
+#[tactic(auto, unfolding(c_unit_grammar::specs::Reading::declarators_in))]
+fn nested_declarators<'a>(
     alloc: Global,
     end: u32,
     depth: u32,
     scope: &mut Scope,
     tokens: &'a [Token],
 ) -> Result<(Declaration, &'a [Token]), ReadError>
-    ensures read { Gives (λ x. (view_declaration x.0, x.1.now)) result (declaration_in depth scope.old tokens.now) }
+    ensures read { Gives (λ x. (view_declaration x.0, x.1.now)) result (declarators_in depth scope.old tokens.now) }
     ensures scope { IfOk result (λ x. scope.new ≡ after_declaration (view_declaration x.0) scope.old) }
 {
     if depth == 0 {
         return Err(deep(tokens));
     }
-    read_declaration(alloc, end, depth - 1, scope, tokens)
+    read_declarators(alloc, end, depth - 1, scope, tokens)
 }
 
-/// What a `for` begins with: a declaration, or an expression or none with its `;` (ISO/IEC 9899:2011, 6.8.5.3).
+/// What a `for` begins with: a declaration that has declarators, or an expression or none with its `;` (ISO/IEC 9899:2011, 6.8.5.3).
 #[tactic(auto, unfolding(c_unit_grammar::specs::Reading::start_at))]
 pub fn start<'a>(
     alloc: Global,
@@ -138,7 +138,7 @@ pub fn start<'a>(
     ensures scope { IfOk result (λ x. scope.new ≡ after_start (view_start x.0) scope.old) }
 {
     if scope.starts_type(tokens) {
-        let (declaration, rest) = nested_declaration(alloc, end, depth, scope, tokens)?;
+        let (declaration, rest) = nested_declarators(alloc, end, depth, scope, tokens)?;
         Ok((ForStart::Declaration(declaration), rest))
     } else {
         let (first, rest) = optional_test(alloc, end, depth, scope, tokens)?;

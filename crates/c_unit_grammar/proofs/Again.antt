@@ -1,19 +1,18 @@
 -- Declarations, statements and external declarations that fit and are spelled so are read.
-use Rattle.std.proofs.Common.{◌≡◌, ℕ, zero, suc, ◌+◌, ◌≤◌, Bool, true, false, List, [], ◌∷◌, length, Option, Some, None, Result, Ok, Err, lit<, refl, sym, ap, subst, ◌∙◌, arith}
+use Rattle.std.proofs.Common.{◌≡◌, ℕ, zero, suc, ◌≤◌, Bool, true, false, List, [], ◌∷◌, length, Option, Some, None, Ok, refl, sym, subst, ◌∙◌, arith}
 use Rattle.c_tree.specs.declared.operator.PrefixOperator.TheVariants as pre
 use Rattle.c_grammar.specs.declared.token.Allowed.TheVariants.{Named}
 use Rattle.c_grammar.specs.declared.token.Token.{Token}
 use Rattle.c_grammar.specs.declared.token.Token.TheVariants as token
-use Rattle.c_grammar.specs.Grammar.{Scope, starts_type, Expr, Name, Number, Byte, Texts, Paren, Postfix, Prefix, SizeOfExpr, SizeOf, Cast, Chain, spell_posts, spell_links, Specs, Decl, after, after_specs, after_decl, is_typedef, spell, spell_specs, spell_decl, spell_comma, Fits, FitsSpecs, FitsDecl, Within, Stops, Ends, NoBraces}
-use Rattle.c_grammar.specs.Reading.{Read, Reader, Inner, closed_at, braced_at, semi_at, colon_at, comma_at, ends_braces, last_comma, level_at, specs_at, decl_at, inner}
-use Rattle.c_grammar.proofs.Lengths.{count_specs, grows_specs}
-use Rattle.c_grammar.proofs.Beginnings.{no_type, NoSpec, end_no_spec, decl_no_spec, decl_no_braces, no_brace}
+use Rattle.c_grammar.specs.Grammar.{Scope, starts_type, Expr, Name, Number, Byte, Texts, Paren, Postfix, Prefix, SizeOfExpr, SizeOf, Cast, Chain, spell_posts, spell_links, Specs, Decl, after, after_specs, after_decl, is_typedef, spell, spell_specs, spell_decl, spell_comma, is_based, NoBase, Fits, FitsSpecifiers, FitsDecl, Stops, Ends, NoBraces}
+use Rattle.c_grammar.specs.Reading.{Reader, Inner, closed_at, braced_at, semi_at, colon_at, comma_at, ends_braces, last_comma, level_at, specifiers_at, decl_at, inner}
+use Rattle.c_grammar.proofs.Beginnings.{no_type, end_no_spec, decl_no_spec, decl_no_braces, no_brace}
 use Rattle.c_grammar.proofs.Steps.{last_again}
-use Rattle.c_grammar.proofs.Again.{level_again, specs_again, decl_again}
-use Rattle.c_unit_grammar.specs.Statements.{Initial, Value, Braced, Initials, no_initials, initial, spell_initial, spell_initials, after_initial, FitsInitial, FitsInitials, Init, init, Declaration, Bare, Declares, spell_value, spell_init, spell_inits, spell_declaration, declared, after_value, after_init, after_declaration, FitsValue, FitsInit, FitsInits, FitsDeclaration, Start, ForDeclares, ForExpr, Stmt, Block, Empty, Do, OnlyIf, IfElse, Switch, Case, Default, While, DoWhile, For, Break, Continue, Return, Items, nothing, declares, does, spell_optional, spell_start, spell_stmt, spell_items, after_optional, after_start, after_stmt, takes_else, StopsElse, FitsOptional, FitsStart, FitsStmt, FitsItems, WithinStmt, WithinItems, body_scope, Ext, Outer, Defines, spell_ext, FitsExt}
-use Rattle.c_unit_grammar.specs.Reading.{ends_semi, ends_parens, equals_at, brace_at, else_at, while_word, next_initial, initials_at, braced_initial, plain_initial, initial_at, initial_in, value_at, init_at, inits_at, behind_at, declares_at, declaration_at, declaration_in, test_at, optional_at, next_at, items_at, block_at, block_in, if_at, switch_at, case_at, default_at, while_at, do_while_at, start_at, for_rest, for_at, break_at, continue_at, return_at, do_at, stmt_at, stmt_in, body_at, outer_at, ext_at}
+use Rattle.c_grammar.proofs.Again.{level_again, specifiers_again, decl_again}
+use Rattle.c_unit_grammar.specs.Statements.{Initial, Value, Braced, Initials, no_initials, initial, spell_initial, spell_initials, after_initial, FitsInitial, FitsInitials, Init, init, Declaration, Bare, Declares, spell_value, spell_init, spell_inits, spell_declaration, declared, after_value, after_init, after_declaration, FitsValue, FitsInit, FitsInits, FitsDeclaration, HasDeclarators, Start, ForDeclares, ForExpr, Stmt, Block, Empty, Do, OnlyIf, IfElse, Switch, Case, Default, While, DoWhile, For, Break, Continue, Return, Items, nothing, declares, does, spell_optional, spell_start, spell_stmt, spell_items, after_optional, after_start, after_stmt, takes_else, StopsElse, FitsOptional, FitsStart, FitsStmt, FitsItems, WithinItems, body_scope, Ext, Outer, Defines, spell_ext, FitsExt}
+use Rattle.c_unit_grammar.specs.Reading.{ends_semi, ends_parens, equals_at, brace_at, else_at, while_word, next_initial, initials_at, braced_initial, plain_initial, initial_at, initial_in, value_at, init_at, inits_at, behind_at, declares_at, declaration_at, declarators_at, declarators_in, test_at, optional_at, next_at, items_at, block_at, block_in, if_at, switch_at, case_at, default_at, while_at, do_while_at, start_at, for_rest, for_at, break_at, continue_at, return_at, do_at, stmt_at, stmt_in, body_at, outer_at, ext_at}
 use Rattle.c_unit_grammar.proofs.Lengths.{count_initials, grows_initials, grows_inits, count_items, grows_items}
-use Rattle.c_unit_grammar.proofs.Beginnings.{Behind, behind_inits, behind_stops, value_ends, value_no_brace, value_no_braces, initials_stop, next_again, next_none, plain_no_brace, starts_specs, starts_declaration, no_semi, named_no_braces, expr_no_semi, expr_no_close, stmt_no_brace, stmt_no_type, items_no_else, any_else, no_else}
+use Rattle.c_unit_grammar.proofs.Beginnings.{Behind, behind_inits, behind_stops, value_ends, value_no_brace, value_no_braces, initials_stop, next_again, next_none, plain_no_brace, starts_declaration, no_semi, named_no_braces, expr_no_semi, expr_no_close, stmt_no_brace, stmt_no_type, items_no_else, any_else, no_else}
 
 -- ---- initial values
 
@@ -100,26 +99,46 @@ behind_again specs d v is n s rest f =
     let tail = spell_inits is (token.Semi ∷ rest) in
     behind_step specs d v is n s _ tail rest (value_again v n (declared td d s) tail f.0.1 (behind_inits is rest)) (inits_again is n (length tail) td (after_value v (declared td d s)) rest f.1 (omega (arith, grows_inits is (token.Semi ∷ rest))))
 
-bare_step : (n : ℕ) (s : Scope) (ts rest : List Token) (specs : Specs) → specs_at (inner n) (length ts) false s ts ≡ Ok (specs, token.Semi ∷ rest) → declaration_at n s ts ≡ Ok (Bare specs, rest)
+bare_step : (n : ℕ) (s : Scope) (ts rest : List Token) (specs : Specs) → specifiers_at (inner n) s ts ≡ Ok (specs, token.Semi ∷ rest) → declaration_at n s ts ≡ Ok (Bare specs, rest)
 unfolding declaration_at ends_semi
 bare_step n s ts rest specs e = rw e refl
 
-declares_step : (n : ℕ) (s : Scope) (ts t1 t2 rest : List Token) (specs : Specs) (d : Decl) (x : Declaration) → specs_at (inner n) (length ts) false s ts ≡ Ok (specs, t1) → ends_semi t1 ≡ None → decl_at (inner n) Named (after_specs specs s) t1 ≡ Ok (d, t2) → behind_at n specs d (after_decl d (after_specs specs s)) t2 ≡ Ok (x, rest) → declaration_at n s ts ≡ Ok (x, rest)
+declares_step : (n : ℕ) (s : Scope) (ts t1 t2 rest : List Token) (specs : Specs) (d : Decl) (x : Declaration) → specifiers_at (inner n) s ts ≡ Ok (specs, t1) → ends_semi t1 ≡ None → decl_at (inner n) Named (after_specs specs s) t1 ≡ Ok (d, t2) → behind_at n specs d (after_decl d (after_specs specs s)) t2 ≡ Ok (x, rest) → declaration_at n s ts ≡ Ok (x, rest)
 unfolding declaration_at declares_at
 declares_step n s ts t1 t2 rest specs d x e1 e2 e3 e4 = rw (e1, e2, e3, e4) refl
 
-specs_first : (specs : Specs) (n : ℕ) (s : Scope) (rest : List Token) → FitsSpecs n false s specs → NoSpec rest → NoBraces rest → specs_at (inner n) (length (spell_specs specs rest)) false s (spell_specs specs rest) ≡ Ok (specs, rest)
-specs_first specs n s rest f none b = specs_again specs n (length (spell_specs specs rest)) false s rest f none b (omega (arith, grows_specs specs rest))
+declarators_step : (n : ℕ) (s : Scope) (ts t1 t2 rest : List Token) (specs : Specs) (d : Decl) (x : Declaration) → specifiers_at (inner n) s ts ≡ Ok (specs, t1) → decl_at (inner n) Named (after_specs specs s) t1 ≡ Ok (d, t2) → behind_at n specs d (after_decl d (after_specs specs s)) t2 ≡ Ok (x, rest) → declarators_at n s ts ≡ Ok (x, rest)
+unfolding declarators_at declares_at
+declarators_step n s ts t1 t2 rest specs d x e1 e2 e3 = rw (e1, e2, e3) refl
+
+-- specifiers before a declarator
+before_decl : (specs : Specs) (d : Decl) (n : ℕ) (s : Scope) (rest : List Token) → FitsSpecifiers n s specs → FitsDecl n Named (after_specs specs s) d → NoBase (is_based false specs) (after_specs specs s) d → Ends rest → NoBraces (spell_decl d rest) → specifiers_at (inner n) s (spell_specs specs (spell_decl d rest)) ≡ Ok (specs, spell_decl d rest)
+before_decl specs d n s rest f fd nb e b = specifiers_again specs n s (spell_decl d rest) f (decl_no_spec d rest n Named (is_based false specs) (after_specs specs s) fd nb e) b
+
+-- specifiers before a semicolon
+before_semi : (specs : Specs) (n : ℕ) (s : Scope) (rest : List Token) → FitsSpecifiers n s specs → specifiers_at (inner n) s (spell_specs specs (token.Semi ∷ rest)) ≡ Ok (specs, token.Semi ∷ rest)
+before_semi specs n s rest f = specifiers_again specs n s (token.Semi ∷ rest) f (end_no_spec (token.Semi ∷ rest) tt (is_based false specs) (after_specs specs s)) tt
 
 pub declaration_again : (x : Declaration) (n : ℕ) (s : Scope) (rest : List Token) → FitsDeclaration n s x → declaration_at n s (spell_declaration x rest) ≡ Ok (x, rest)
-declaration_again (Bare specs) n s rest f = bare_step n s _ rest specs (specs_first specs n s (token.Semi ∷ rest) f (end_no_spec (token.Semi ∷ rest) tt) tt)
+declaration_again (Bare specs) n s rest f = bare_step n s _ rest specs (before_semi specs n s rest f)
 declaration_again (Declares specs (init d v) is) n s rest f =
     let behind = spell_inits is (token.Semi ∷ rest) in
     let tail = spell_value v behind in
     let ends = value_ends v behind (behind_inits is rest) in
     declares_step n s _ (spell_decl d tail) tail rest specs d (Declares specs (init d v) is)
-    (specs_first specs n s (spell_decl d tail) f.0 (decl_no_spec d tail n Named (after_specs specs s) f.1.0.0 ends) (decl_no_braces d tail (value_no_braces v behind (behind_inits is rest))))
+    (before_decl specs d n s tail f.0 f.1.0.0 f.2 ends (decl_no_braces d tail (value_no_braces v behind (behind_inits is rest))))
     (no_semi n (after_specs specs s) d tail f.1.0.0)
+    (decl_again d n Named (after_specs specs s) tail f.1.0.0 ends)
+    (behind_again specs d v is n (after_specs specs s) rest f.1)
+
+pub declarators_again : (x : Declaration) (n : ℕ) (s : Scope) (rest : List Token) → FitsDeclaration n s x → HasDeclarators x → declarators_at n s (spell_declaration x rest) ≡ Ok (x, rest)
+declarators_again (Bare specs) n s rest f h = absurd h
+declarators_again (Declares specs (init d v) is) n s rest f h =
+    let behind = spell_inits is (token.Semi ∷ rest) in
+    let tail = spell_value v behind in
+    let ends = value_ends v behind (behind_inits is rest) in
+    declarators_step n s _ (spell_decl d tail) tail rest specs d (Declares specs (init d v) is)
+    (before_decl specs d n s tail f.0 f.1.0.0 f.2 ends (decl_no_braces d tail (value_no_braces v behind (behind_inits is rest))))
     (decl_again d n Named (after_specs specs s) tail f.1.0.0 ends)
     (behind_again specs d v is n (after_specs specs s) rest f.1)
 
@@ -244,8 +263,8 @@ for_step : (n : ℕ) (sub : Reader Stmt) (block : Reader Items) (s : Scope) (ts 
 unfolding stmt_at for_at for_rest
 for_step n sub block s ts t1 t2 t3 rest i e f a e1 e2 e3 e4 = rw (e1, e2, e3, e4) refl
 
-start_declares : (n : ℕ) (s : Scope) (ts rest : List Token) (d : Declaration) → starts_type s ts ≡ true → declaration_at n s ts ≡ Ok (d, rest) → start_at (suc n) s ts ≡ Ok (ForDeclares d, rest)
-unfolding start_at declaration_in
+start_declares : (n : ℕ) (s : Scope) (ts rest : List Token) (d : Declaration) → starts_type s ts ≡ true → declarators_at n s ts ≡ Ok (d, rest) → start_at (suc n) s ts ≡ Ok (ForDeclares d, rest)
+unfolding start_at declarators_in
 start_declares n s ts rest d e1 e2 = rw (e1, e2) refl
 
 start_expr : (n : ℕ) (s : Scope) (ts rest : List Token) (e : Option Expr) → starts_type s ts ≡ false → optional_at ((inner n).expr 13) s ts ≡ Ok (e, rest) → start_at n s ts ≡ Ok (ForExpr e, rest)
@@ -253,7 +272,7 @@ unfolding start_at
 start_expr n s ts rest e e1 e2 = rw (e1, e2) refl
 
 start_again : (i : Start) (n : ℕ) (s : Scope) (rest : List Token) → FitsStart n s i → start_at (suc n) s (spell_start i rest) ≡ Ok (i, rest)
-start_again (ForDeclares d) n s rest f = start_declares n s _ rest d (starts_declaration n s d rest f) (declaration_again d n s rest f)
+start_again (ForDeclares d) n s rest f = start_declares n s _ rest d (starts_declaration n s d rest f.0) (declarators_again d n s rest f.0 f.1)
 start_again (ForExpr None) n s rest f = start_expr (suc n) s _ rest None refl (nested_optional None n s rest f)
 start_again (ForExpr (Some e)) n s rest f = start_expr (suc n) s _ rest (Some e) (no_type n 13 s e (token.Semi ∷ rest) f) (nested_optional (Some e) n s rest f)
 
@@ -336,26 +355,26 @@ block_again items (suc n) s rest f =
 
 -- ---- external declarations
 
-outer_bare : (n : ℕ) (s : Scope) (ts rest : List Token) (specs : Specs) → specs_at (inner n) (length ts) false s ts ≡ Ok (specs, token.Semi ∷ rest) → ext_at n s ts ≡ Ok (Outer (Bare specs), rest)
+outer_bare : (n : ℕ) (s : Scope) (ts rest : List Token) (specs : Specs) → specifiers_at (inner n) s ts ≡ Ok (specs, token.Semi ∷ rest) → ext_at n s ts ≡ Ok (Outer (Bare specs), rest)
 unfolding ext_at ends_semi
 outer_bare n s ts rest specs e = rw e refl
 
-outer_step : (n : ℕ) (s : Scope) (ts t1 t2 rest : List Token) (specs : Specs) (d : Decl) (x : Declaration) → specs_at (inner n) (length ts) false s ts ≡ Ok (specs, t1) → ends_semi t1 ≡ None → decl_at (inner n) Named (after_specs specs s) t1 ≡ Ok (d, t2) → brace_at t2 ≡ None → behind_at n specs d (after_decl d (after_specs specs s)) t2 ≡ Ok (x, rest) → ext_at n s ts ≡ Ok (Outer x, rest)
+outer_step : (n : ℕ) (s : Scope) (ts t1 t2 rest : List Token) (specs : Specs) (d : Decl) (x : Declaration) → specifiers_at (inner n) s ts ≡ Ok (specs, t1) → ends_semi t1 ≡ None → decl_at (inner n) Named (after_specs specs s) t1 ≡ Ok (d, t2) → brace_at t2 ≡ None → behind_at n specs d (after_decl d (after_specs specs s)) t2 ≡ Ok (x, rest) → ext_at n s ts ≡ Ok (Outer x, rest)
 unfolding ext_at outer_at
 outer_step n s ts t1 t2 rest specs d x e1 e2 e3 e4 e5 = rw (e1, e2, e3, e4, e5) refl
 
-defines_step : (n : ℕ) (s : Scope) (ts t1 t2 rest : List Token) (specs : Specs) (d : Decl) (body : Items) → specs_at (inner n) (length ts) false s ts ≡ Ok (specs, t1) → ends_semi t1 ≡ None → decl_at (inner n) Named (after_specs specs s) t1 ≡ Ok (d, token.BraceOpen ∷ t2) → block_in n (stmt_in n) (body_scope (is_typedef specs) d (after_decl d (after_specs specs s))) t2 ≡ Ok (body, rest) → ext_at n s ts ≡ Ok (Defines specs d body, rest)
+defines_step : (n : ℕ) (s : Scope) (ts t1 t2 rest : List Token) (specs : Specs) (d : Decl) (body : Items) → specifiers_at (inner n) s ts ≡ Ok (specs, t1) → ends_semi t1 ≡ None → decl_at (inner n) Named (after_specs specs s) t1 ≡ Ok (d, token.BraceOpen ∷ t2) → block_in n (stmt_in n) (body_scope (is_typedef specs) d (after_decl d (after_specs specs s))) t2 ≡ Ok (body, rest) → ext_at n s ts ≡ Ok (Defines specs d body, rest)
 unfolding ext_at outer_at brace_at body_at
 defines_step n s ts t1 t2 rest specs d body e1 e2 e3 e4 = rw (e1, e2, e3, e4) refl
 
 pub ext_again : (x : Ext) (n : ℕ) (s : Scope) (rest : List Token) → FitsExt n s x → ext_at n s (spell_ext x rest) ≡ Ok (x, rest)
-ext_again (Outer (Bare specs)) n s rest f = outer_bare n s _ rest specs (specs_first specs n s (token.Semi ∷ rest) f (end_no_spec (token.Semi ∷ rest) tt) tt)
+ext_again (Outer (Bare specs)) n s rest f = outer_bare n s _ rest specs (before_semi specs n s rest f)
 ext_again (Outer (Declares specs (init d v) is)) n s rest f =
     let behind = spell_inits is (token.Semi ∷ rest) in
     let tail = spell_value v behind in
     let ends = value_ends v behind (behind_inits is rest) in
     outer_step n s _ (spell_decl d tail) tail rest specs d (Declares specs (init d v) is)
-    (specs_first specs n s (spell_decl d tail) f.0 (decl_no_spec d tail n Named (after_specs specs s) f.1.0.0 ends) (decl_no_braces d tail (value_no_braces v behind (behind_inits is rest))))
+    (before_decl specs d n s tail f.0 f.1.0.0 f.2 ends (decl_no_braces d tail (value_no_braces v behind (behind_inits is rest))))
     (no_semi n (after_specs specs s) d tail f.1.0.0)
     (decl_again d n Named (after_specs specs s) tail f.1.0.0 ends)
     (value_no_brace v behind (behind_inits is rest))
@@ -363,7 +382,7 @@ ext_again (Outer (Declares specs (init d v) is)) n s rest f =
 ext_again (Defines specs d body) n s rest f =
     let tail = spell_items body (token.BraceClose ∷ rest) in
     defines_step n s _ (spell_decl d (token.BraceOpen ∷ tail)) tail rest specs d body
-    (specs_first specs n s (spell_decl d (token.BraceOpen ∷ tail)) f.0 (decl_no_spec d (token.BraceOpen ∷ tail) n Named (after_specs specs s) f.1 tt) (named_no_braces n (after_specs specs s) d (token.BraceOpen ∷ tail) f.1))
+    (before_decl specs d n s (token.BraceOpen ∷ tail) f.0 f.1 f.3 tt (named_no_braces n (after_specs specs s) d (token.BraceOpen ∷ tail) f.1))
     (no_semi n (after_specs specs s) d (token.BraceOpen ∷ tail) f.1)
     (decl_again d n Named (after_specs specs s) (token.BraceOpen ∷ tail) f.1 tt)
     (block_again body n (body_scope (is_typedef specs) d (after_decl d (after_specs specs s))) rest f.2)

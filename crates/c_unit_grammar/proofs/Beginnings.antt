@@ -5,11 +5,11 @@ use Rattle.c_tree.specs.declared.operator.PrefixOperator.TheVariants as pre
 use Rattle.c_grammar.specs.declared.token.Allowed.TheVariants.{Named}
 use Rattle.c_grammar.specs.declared.token.Token.{Token}
 use Rattle.c_grammar.specs.declared.token.Token.TheVariants as token
-use Rattle.c_grammar.specs.Grammar.{Scope, starts_type, Expr, Name, Number, Byte, Texts, Paren, Postfix, Prefix, SizeOfExpr, SizeOf, Cast, Chain, Specs, no_specs, spec, Keyword, TypeName, StructTag, Struct, EnumTag, Enum, Ranked, Decl, decl, Absent, Id, Group, spell, spell_posts, spell_links, spell_specs, spell_decl, spell_comma, Fits, FitsSpecs, FitsDecl, Stops, Ends, NoBraces, begins_post}
-use Rattle.c_grammar.specs.Reading.{ends_braces, last_comma}
-use Rattle.c_grammar.proofs.Beginnings.{no_type}
-use Rattle.c_unit_grammar.specs.Statements.{Initial, Value, Braced, Initials, no_initials, initial, spell_initial, spell_initials, Init, Declaration, Bare, Declares, spell_value, spell_inits, spell_declaration, FitsDeclaration, Start, ForDeclares, ForExpr, Stmt, Block, Empty, Do, OnlyIf, IfElse, Switch, Case, Default, While, DoWhile, For, Break, Continue, Return, Items, nothing, declares, does, spell_optional, spell_stmt, spell_items, StopsElse, FitsStmt, FitsItems}
-use Rattle.c_unit_grammar.specs.Reading.{ends_semi, ends_parens, equals_at, brace_at, else_at, next_initial}
+use Rattle.c_grammar.specs.Grammar.{Scope, starts_type, Expr, Name, Number, Byte, Texts, Paren, Postfix, Prefix, SizeOfExpr, SizeOf, Cast, Chain, Decl, decl, Absent, Id, Group, spell, spell_posts, spell_links, spell_decl, spell_comma, FitsDecl, Stops, Ends, NoBraces}
+use Rattle.c_grammar.specs.Reading.{ends_braces}
+use Rattle.c_grammar.proofs.Beginnings.{no_type, starts_specifiers}
+use Rattle.c_unit_grammar.specs.Statements.{Initial, Value, Braced, Initials, no_initials, initial, spell_initial, spell_initials, Init, Declaration, Bare, Declares, spell_value, spell_inits, spell_declaration, FitsDeclaration, Stmt, Block, Empty, Do, OnlyIf, IfElse, Switch, Case, Default, While, DoWhile, For, Break, Continue, Return, Items, nothing, declares, does, spell_stmt, spell_items, StopsElse, FitsStmt, FitsItems}
+use Rattle.c_unit_grammar.specs.Reading.{ends_semi, ends_parens, brace_at, else_at, next_initial}
 
 -- ---- behind a value
 
@@ -119,19 +119,9 @@ plain_no_brace (Chain h first links) rest = plain_no_brace first (spell_links li
 
 -- ---- declarations
 
-pub starts_specs : (n : ℕ) (s : Scope) (specs : Specs) (rest : List Token) → FitsSpecs n false s specs → starts_type s (spell_specs specs rest) ≡ true
-starts_specs n s no_specs rest f = absurd cc
-starts_specs n s (spec (Keyword w) more) rest f = refl
-starts_specs n s (spec (TypeName k) more) rest f = f.0.1
-starts_specs n s (spec (StructTag k) more) rest f = refl
-starts_specs n s (spec (Struct tag ms) more) rest f = refl
-starts_specs n s (spec (EnumTag k) more) rest f = refl
-starts_specs n s (spec (Enum tag i is c) more) rest f = refl
-starts_specs n s (spec (Ranked k t) more) rest f = refl
-
 pub starts_declaration : (n : ℕ) (s : Scope) (d : Declaration) (rest : List Token) → FitsDeclaration n s d → starts_type s (spell_declaration d rest) ≡ true
-starts_declaration n s (Bare specs) rest f = starts_specs n s specs (token.Semi ∷ rest) f
-starts_declaration n s (Declares specs i is) rest f = starts_specs n s specs _ f.0
+starts_declaration n s (Bare specs) rest f = starts_specifiers n s specs (token.Semi ∷ rest) f
+starts_declaration n s (Declares specs i is) rest f = starts_specifiers n s specs _ f.0
 
 pub no_semi : (n : ℕ) (s : Scope) (d : Decl) (rest : List Token) → FitsDecl n Named s d → ends_semi (spell_decl d rest) ≡ None
 unfolding ends_semi

@@ -5,7 +5,7 @@ use Rattle.c_grammar.specs.declared.token.Token.{Token}
 use Rattle.c_grammar.specs.declared.fault.Fault.{Fault}
 use Rattle.c_grammar.specs.Grammar.{Scope}
 use Rattle.c_grammar.specs.Reading.{Read}
-use Rattle.c_unit_grammar.specs.Statements.{Stmt, spell_stmt, WithinStmt, takes_else, StopsElse, Ext, spell_ext, after_ext, FitsExt, spell_exts, FitsExts, IsFirstBroken}
+use Rattle.c_unit_grammar.specs.Statements.{Stmt, spell_stmt, WithinStmt, takes_else, StopsElse, Ext, spell_ext, after_ext, FitsExt}
 use Rattle.c_unit_grammar.specs.Reading.{stmt_in, ext_at, and_on, and_also, file_at, Tells}
 use Rattle.c_unit_grammar.proofs.Lengths.{grows_ext}
 use Rattle.c_unit_grammar.proofs.Sound.{IsExt, ext_sound}

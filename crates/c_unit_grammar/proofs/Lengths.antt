@@ -1,8 +1,8 @@
 -- The rest of the tokens is no longer than the whole.
-use Rattle.std.proofs.Common.{◌≡◌, ℕ, ◌+◌, ◌≤◌, List, [], ◌∷◌, length, Option, Some, None, arith}
+use Rattle.std.proofs.Common.{ℕ, ◌+◌, ◌≤◌, List, [], ◌∷◌, length, Option, Some, None, arith}
 use Rattle.c_grammar.specs.declared.token.Token.{Token}
 use Rattle.c_grammar.specs.declared.token.Token.TheVariants as token
-use Rattle.c_grammar.specs.Grammar.{Expr, Specs, Decl, spell, spell_specs, spell_decl, spell_comma}
+use Rattle.c_grammar.specs.Grammar.{Expr, spell, spell_decl, spell_comma}
 use Rattle.c_grammar.proofs.Lengths.{grows, grows_specs, grows_decl, grows_comma}
 use Rattle.c_unit_grammar.specs.Statements.{Initial, Value, Braced, Initials, no_initials, initial, spell_initial, spell_initials, Init, init, Declaration, Bare, Declares, spell_value, spell_init, spell_inits, spell_declaration, Start, ForDeclares, ForExpr, Stmt, Block, Empty, Do, OnlyIf, IfElse, Switch, Case, Default, While, DoWhile, For, Break, Continue, Return, Items, nothing, declares, does, spell_optional, spell_start, spell_stmt, spell_items, Ext, Outer, Defines, spell_ext}
 

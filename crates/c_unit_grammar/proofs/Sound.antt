@@ -1,14 +1,15 @@
 -- Declarations, statements and external declarations that are read are spelled so, and fit.
-use Rattle.std.proofs.Common.{◌≡◌, ℕ, zero, suc, Bool, true, false, List, [], ◌∷◌, length, Option, Some, None, Result, Ok, Err, refl, sym, ap, subst, ◌∙◌}
+use Rattle.std.proofs.Common.{◌≡◌, ℕ, zero, suc, Bool, true, false, List, [], ◌∷◌, length, Option, Some, None, Ok, Err, refl, sym, ap, subst, ◌∙◌}
 use Rattle.std.specs.Prelude.{IfOk}
 use Rattle.c_grammar.specs.declared.token.Allowed.TheVariants.{Named}
 use Rattle.c_grammar.specs.declared.token.Token.{Token}
 use Rattle.c_grammar.specs.declared.token.Token.TheVariants as token
-use Rattle.c_grammar.specs.Grammar.{Scope, starts_type, Expr, Specs, Decl, after, after_specs, after_decl, is_typedef, spell, spell_specs, spell_decl, spell_comma, Fits, FitsSpecs, FitsDecl, Within}
-use Rattle.c_grammar.specs.Reading.{◌>>=◌, Read, Reader, Inner, closed_at, braced_at, semi_at, colon_at, comma_at, ends_braces, last_comma, level_at, specs_at, decl_at, inner}
-use Rattle.c_unit_grammar.specs.Statements.{Initial, Value, Braced, Initials, no_initials, initial, spell_initial, spell_initials, after_initial, FitsInitial, FitsInitials, Init, init, Declaration, Bare, Declares, spell_value, spell_init, spell_inits, spell_declaration, declared, after_value, after_init, after_declaration, FitsValue, FitsInit, FitsInits, FitsDeclaration, WithinDeclaration, Start, ForDeclares, ForExpr, Stmt, Block, Empty, Do, OnlyIf, IfElse, Switch, Case, Default, While, DoWhile, For, Break, Continue, Return, Items, nothing, declares, does, spell_optional, spell_start, spell_stmt, spell_items, after_optional, after_start, after_stmt, takes_else, StopsElse, WithinOptional, FitsOptional, FitsStart, FitsStmt, FitsItems, WithinStmt, WithinItems, body_scope, Ext, Outer, Defines, spell_ext, FitsExt}
-use Rattle.c_unit_grammar.specs.Reading.{ends_semi, ends_parens, equals_at, brace_at, else_at, while_word, next_initial, initials_at, braced_initial, plain_initial, initial_at, initial_in, value_at, init_at, inits_at, behind_at, declares_at, declaration_at, declaration_in, test_at, optional_at, next_at, items_at, block_at, block_in, if_at, switch_at, case_at, default_at, while_at, do_while_at, start_at, for_rest, for_at, break_at, continue_at, return_at, do_at, stmt_at, stmt_in, body_at, outer_at, ext_at}
-use Rattle.c_grammar.proofs.Sound.{ok_then, chosen, tested, closed_sound, braced_sound, semi_sound, colon_sound, IsComma, comma_sound, last_sound, IsRead, SoundInner, level_sound, specs_sound, decl_sound, inner_sound}
+use Rattle.c_grammar.specs.Grammar.{Scope, starts_type, Expr, Specs, Decl, after, after_specs, after_decl, is_typedef, spell, spell_specs, spell_decl, spell_comma, is_based, NoBase, Fits, FitsSpecifiers, FitsDecl, Within}
+use Rattle.c_grammar.specs.Reading.{Read, Reader, closed_at, braced_at, semi_at, colon_at, comma_at, ends_braces, last_comma, level_at, specifiers_at, begins_spec, decl_at, inner}
+use Rattle.c_unit_grammar.specs.Statements.{Initial, Value, Braced, Initials, no_initials, initial, spell_initial, spell_initials, after_initial, FitsInitial, FitsInitials, Init, Declaration, spell_value, spell_init, spell_inits, spell_declaration, declared, after_value, after_init, after_declaration, FitsValue, FitsInit, FitsInits, FitsDeclaration, WithinDeclaration, HasDeclarators, Start, ForDeclares, ForExpr, Stmt, Block, Empty, Do, OnlyIf, IfElse, Switch, Case, Default, While, DoWhile, For, Break, Continue, Return, Items, spell_optional, spell_start, spell_stmt, spell_items, after_optional, after_start, after_stmt, takes_else, StopsElse, WithinOptional, FitsOptional, FitsStart, FitsStmt, FitsItems, WithinStmt, WithinItems, body_scope, Ext, spell_ext, FitsExt}
+use Rattle.c_unit_grammar.specs.Reading.{ends_semi, ends_parens, equals_at, brace_at, else_at, while_word, next_initial, initials_at, braced_initial, plain_initial, initial_at, initial_in, value_at, init_at, inits_at, behind_at, declares_at, declaration_at, declarators_at, declarators_in, test_at, optional_at, next_at, items_at, block_at, block_in, if_at, switch_at, case_at, default_at, while_at, do_while_at, start_at, for_rest, for_at, break_at, continue_at, return_at, do_at, stmt_at, stmt_in, body_at, outer_at, ext_at}
+use Rattle.c_grammar.proofs.Sound.{ok_then, ok_also, chosen, tested, closed_sound, braced_sound, semi_sound, colon_sound, IsComma, comma_sound, last_sound, IsRead, level_sound, specifiers_sound, decl_sound, inner_sound}
+use Rattle.c_grammar.proofs.Beginnings.{no_base}
 
 -- ---- single tokens
 
@@ -165,10 +166,14 @@ module _ (n : ℕ) where
   a_decl s ts = decl_sound (inner n) n (inner_sound n) Named s ts
 
   abbrev HasSpecs : Scope → List Token → Specs × List Token → Type 0
-  HasSpecs s ts y = (ts ≡ spell_specs y.0 y.1) × FitsSpecs n false s y.0
+  HasSpecs s ts y = (ts ≡ spell_specs y.0 y.1) × FitsSpecifiers n s y.0 × (begins_spec (is_based false y.0) (after_specs y.0 s) y.1 ≡ false)
 
-  some_specs : (s : Scope) (ts : List Token) → IfOk (specs_at (inner n) (length ts) false s ts) (HasSpecs s ts)
-  some_specs s ts = specs_sound (inner n) n (inner_sound n) (length ts) false s ts
+  some_specs : (s : Scope) (ts : List Token) → IfOk (specifiers_at (inner n) s ts) (HasSpecs s ts)
+  some_specs s ts = specifiers_sound (inner n) n (inner_sound n) s ts
+
+  -- what stands behind specifiers is no base of theirs
+  behind_specs : (specs : Specs) (s : Scope) (d : Decl) (ts rest : List Token) → begins_spec (is_based false specs) (after_specs specs s) ts ≡ false → ts ≡ spell_decl d rest → NoBase (is_based false specs) (after_specs specs s) d
+  behind_specs specs s d ts rest none e = no_base (is_based false specs) (after_specs specs s) d rest (ap (begins_spec (is_based false specs) (after_specs specs s)) (sym e) ∙ none)
 
   abbrev IsValue : Scope → List Token → Option Initial × List Token → Type 0
   IsValue s ts x = (ts ≡ spell_value x.0 x.1) × FitsValue n s x.0
@@ -204,32 +209,44 @@ module _ (n : ℕ) where
   abbrev pub IsDeclaration : Scope → List Token → Declaration × List Token → Type 0
   IsDeclaration s ts x = (ts ≡ spell_declaration x.0 x.1) × FitsDeclaration n s x.0
 
-  behind_sound : (specs : Specs) (d : Decl) (s : Scope) (ts all : List Token) → FitsSpecs n false s specs → FitsDecl n Named (after_specs specs s) d → all ≡ spell_specs specs (spell_decl d ts) → IfOk (behind_at n specs d (after_decl d (after_specs specs s)) ts) (IsDeclaration s all)
+  abbrev pub HasInits : Scope → List Token → Declaration × List Token → Type 0
+  HasInits s ts x = (ts ≡ spell_declaration x.0 x.1) × FitsDeclaration n s x.0 × HasDeclarators x.0
+
+  behind_sound : (specs : Specs) (d : Decl) (s : Scope) (ts all : List Token) → FitsSpecifiers n s specs → FitsDecl n Named (after_specs specs s) d → NoBase (is_based false specs) (after_specs specs s) d → all ≡ spell_specs specs (spell_decl d ts) → IfOk (behind_at n specs d (after_decl d (after_specs specs s)) ts) (HasInits s all)
   unfolding behind_at
-  behind_sound specs d s ts all fs fd e =
+  behind_sound specs d s ts all fs fd nb e =
       let td = is_typedef specs in
       let s1 = declared td d (after_specs specs s) in
       ok_then (value_at n s1 ts) _ (IsValue s1 ts) _ (value_sound s1 ts) (λ x p.
       ok_then (inits_at n td (length x.1) (after_value x.0 s1) x.1) _ (AreInits td (after_value x.0 s1) x.1) _ (inits_sound td (length x.1) (after_value x.0 s1) x.1) (λ y q.
       ok_then (semi_at y.1) _ (λ rest. y.1 ≡ token.Semi ∷ rest) _ (semi_sound y.1) (λ rest c.
-      (e ∙ ap (λ r. spell_specs specs (spell_decl d r)) (p.0 ∙ ap (spell_value x.0) (q.0 ∙ ap (spell_inits y.0) c)), (fs, ((fd, p.1), q.1))))))
+      (e ∙ ap (λ r. spell_specs specs (spell_decl d r)) (p.0 ∙ ap (spell_value x.0) (q.0 ∙ ap (spell_inits y.0) c)), (fs, ((fd, p.1), q.1), nb), tt))))
+
+  declares_sound : (s : Scope) (ts : List Token) (specs : Specs) (rest : List Token) → HasSpecs s ts (specs, rest) → IfOk (declares_at n specs (after_specs specs s) rest) (HasInits s ts)
+  unfolding declares_at
+  declares_sound s ts specs rest p =
+      ok_then (decl_at (inner n) Named (after_specs specs s) rest) _ (IsDecl (after_specs specs s) rest) _ (a_decl (after_specs specs s) rest) (λ y q.
+      behind_sound specs y.0 s y.1 ts p.1 q.1 (behind_specs specs s y.0 rest y.1 p.2 q.0) (p.0 ∙ ap (spell_specs specs) q.0))
+
+  pub declarators_sound : (s : Scope) (ts : List Token) → IfOk (declarators_at n s ts) (HasInits s ts)
+  unfolding declarators_at
+  declarators_sound s ts = ok_then (specifiers_at (inner n) s ts) _ (HasSpecs s ts) _ (some_specs s ts) (λ x p. declares_sound s ts x.0 x.1 p)
 
   pub declaration_sound : (s : Scope) (ts : List Token) → IfOk (declaration_at n s ts) (IsDeclaration s ts)
-  unfolding declaration_at declares_at
+  unfolding declaration_at
   declaration_sound s ts =
-      ok_then (specs_at (inner n) (length ts) false s ts) _ (HasSpecs s ts) _ (some_specs s ts) (λ x p.
+      ok_then (specifiers_at (inner n) s ts) _ (HasSpecs s ts) _ (some_specs s ts) (λ x p.
       chosen (ends_semi x.1) _ _ (IsSemi x.1) _ (ends_sound x.1)
-      (λ _. ok_then (decl_at (inner n) Named (after_specs x.0 s) x.1) _ (IsDecl (after_specs x.0 s) x.1) _ (a_decl (after_specs x.0 s) x.1) (λ y q.
-      behind_sound x.0 y.0 s y.1 ts p.1 q.1 (p.0 ∙ ap (spell_specs x.0) q.0)))
+      (λ _. ok_also (declares_at n x.0 (after_specs x.0 s) x.1) (HasInits s ts) (IsDeclaration s ts) (declares_sound s ts x.0 x.1 p) (λ y q. (q.0, q.1)))
       (λ rest c. (p.0 ∙ ap (spell_specs x.0) c, p.1)))
 
-abbrev InDeclaration : ℕ → Scope → List Token → Declaration × List Token → Type 0
-InDeclaration n s ts x = (ts ≡ spell_declaration x.0 x.1) × WithinDeclaration n s x.0
+abbrev InDeclarators : ℕ → Scope → List Token → Declaration × List Token → Type 0
+InDeclarators n s ts x = (ts ≡ spell_declaration x.0 x.1) × WithinDeclaration n s x.0 × HasDeclarators x.0
 
-declaration_in_sound : (n : ℕ) (s : Scope) (ts : List Token) → IfOk (declaration_in n s ts) (InDeclaration n s ts)
-unfolding declaration_in
-declaration_in_sound zero s ts = tt
-declaration_in_sound (suc n) s ts = declaration_sound n s ts
+declarators_in_sound : (n : ℕ) (s : Scope) (ts : List Token) → IfOk (declarators_in n s ts) (InDeclarators n s ts)
+unfolding declarators_in
+declarators_in_sound zero s ts = tt
+declarators_in_sound (suc n) s ts = declarators_sound n s ts
 
 -- ---- expressions in statements
 
@@ -303,7 +320,7 @@ do_while_fits zero s e a w f = w
 do_while_fits (suc n) s e a w f = (w, f)
 
 abbrev WithinStart : ℕ → Scope → Start → Type 0
-WithinStart n s (ForDeclares d) = WithinDeclaration n s d
+WithinStart n s (ForDeclares d) = WithinDeclaration n s d × HasDeclarators d
 WithinStart n s (ForExpr e) = WithinOptional n s e
 
 start_fits : (n : ℕ) (s : Scope) (i : Start) → WithinStart (suc n) s i → FitsStart n s i
@@ -435,7 +452,7 @@ module _ (n : ℕ) (sub : Reader Stmt) (i : (s : Scope) (ts : List Token) → If
   unfolding start_at
   start_sound s ts =
       tested (starts_type s ts) _ _ _
-      (λ _. ok_then (declaration_in n s ts) _ (InDeclaration n s ts) _ (declaration_in_sound n s ts) (λ x p. p))
+      (λ _. ok_then (declarators_in n s ts) _ (InDeclarators n s ts) _ (declarators_in_sound n s ts) (λ x p. (p.0, (p.1, p.2))))
       (λ _. ok_then (optional_at ((inner n).expr 13) s ts) _ (IsOptional (λ t e. WithinOptional n t e) s ts token.Semi) _ (nested_optional s ts) (λ x p. p))
 
   for_sound : (s : Scope) (ts : List Token) → IfOk (for_at n sub s ts) (IsStmt n s (token.For ∷ ts))
@@ -496,14 +513,14 @@ IsExt n s ts x = (ts ≡ spell_ext x.0 x.1) × FitsExt n s x.0
 pub ext_sound : (n : ℕ) (s : Scope) (ts : List Token) → IfOk (ext_at n s ts) (IsExt n s ts)
 unfolding ext_at outer_at body_at
 ext_sound n s ts =
-    ok_then (specs_at (inner n) (length ts) false s ts) _ (HasSpecs n s ts) _ (some_specs n s ts) (λ x p.
+    ok_then (specifiers_at (inner n) s ts) _ (HasSpecs n s ts) _ (some_specs n s ts) (λ x p.
     chosen (ends_semi x.1) _ _ (IsSemi x.1) _ (ends_sound x.1)
     (λ _. ok_then (decl_at (inner n) Named (after_specs x.0 s) x.1) _ (IsDecl n (after_specs x.0 s) x.1) _ (a_decl n (after_specs x.0 s) x.1) (λ y q.
     let so_far = p.0 ∙ ap (spell_specs x.0) q.0 in
     chosen (brace_at y.1) _ _ (IsBrace y.1) _ (brace_sound y.1)
-    (λ _. ok_then (behind_at n x.0 y.0 (after_decl y.0 (after_specs x.0 s)) y.1) _ (IsDeclaration n s ts) _ (behind_sound n x.0 y.0 s y.1 ts p.1 q.1 so_far) (λ z t. (t.0, t.1)))
+    (λ _. ok_then (behind_at n x.0 y.0 (after_decl y.0 (after_specs x.0 s)) y.1) _ (HasInits n s ts) _ (behind_sound n x.0 y.0 s y.1 ts p.1 q.1 (behind_specs n x.0 s y.0 x.1 y.1 p.2 q.0) so_far) (λ z t. (t.0, t.1)))
     (λ rest c.
     let s1 = body_scope (is_typedef x.0) y.0 (after_decl y.0 (after_specs x.0 s)) in
     ok_then (block_in n (stmt_in n) s1 rest) _ (InBlock n s1 rest) _ (block_in_sound n (stmt_in n) (in_sound n) s1 rest) (λ z t.
-    (so_far ∙ ap (λ r. spell_specs x.0 (spell_decl y.0 r)) (c ∙ ap (λ r. token.BraceOpen ∷ r) t.0), (p.1, q.1, t.1))))))
+    (so_far ∙ ap (λ r. spell_specs x.0 (spell_decl y.0 r)) (c ∙ ap (λ r. token.BraceOpen ∷ r) t.0), (p.1, q.1, t.1, behind_specs n x.0 s y.0 x.1 y.1 p.2 q.0))))))
     (λ rest c. (p.0 ∙ ap (spell_specs x.0) c, p.1)))

@@ -1,11 +1,11 @@
 -- Reading declarations, statements and external declarations from left to right, with the names in scope.
-use Rattle.std.specs.Prelude.{◌≡◌, ℕ, zero, suc, List, [], ◌∷◌, length, Option, Some, None, Result, Ok, Err, Bool, true, false, if◌then◌else◌}
+use Rattle.std.specs.Prelude.{◌≡◌, ℕ, zero, suc, List, [], ◌∷◌, length, Option, Some, None, Result, Ok, Err, Bool, if◌then◌else◌}
 use Rattle.c_grammar.specs.declared.token.Allowed.TheVariants.{Named}
 use Rattle.c_grammar.specs.declared.token.Token.{Token}
 use Rattle.c_grammar.specs.declared.token.Token.TheVariants as token
 use Rattle.c_grammar.specs.declared.fault.Fault.{Fault}
 use Rattle.c_grammar.specs.Grammar.{Scope, starts_type, bind, Expr, Specs, Decl, after, after_specs, after_decl, name_of, is_typedef}
-use Rattle.c_grammar.specs.Reading.{◌>>=◌, Read, Reader, Inner, broken, deep, choose, closed_at, braced_at, semi_at, colon_at, comma_at, ends_braces, last_comma, level_at, specs_at, decl_at, inner}
+use Rattle.c_grammar.specs.Reading.{◌>>=◌, Read, Reader, Inner, broken, deep, choose, closed_at, braced_at, semi_at, colon_at, comma_at, ends_braces, last_comma, level_at, specifiers_at, decl_at, inner}
 use Rattle.c_unit_grammar.specs.Statements.{Initial, Value, Braced, Initials, no_initials, initial, after_initial, Init, init, Declaration, Bare, Declares, declared, after_value, after_init, after_declaration, Start, ForDeclares, ForExpr, Stmt, Block, Empty, Do, OnlyIf, IfElse, Switch, Case, Default, While, DoWhile, For, Break, Continue, Return, Items, nothing, declares, does, after_optional, after_start, after_stmt, body_scope, Ext, Outer, Defines, after_ext, spell_exts, FitsExts, IsFirstBroken}
 
 -- ---- single tokens
@@ -84,11 +84,15 @@ unfoldable pub declares_at : ℕ → Specs → Reader Declaration
 declares_at n specs s ts = decl_at (inner n) Named s ts >>= λ x. behind_at n specs x.0 (after_decl x.0 s) x.1
 
 unfoldable pub declaration_at : ℕ → Reader Declaration
-declaration_at n s ts = specs_at (inner n) (length ts) false s ts >>= λ x. choose (ends_semi x.1) (declares_at n x.0 (after_specs x.0 s) x.1) (λ rest. Ok (Bare x.0, rest))
+declaration_at n s ts = specifiers_at (inner n) s ts >>= λ x. choose (ends_semi x.1) (declares_at n x.0 (after_specs x.0 s) x.1) (λ rest. Ok (Bare x.0, rest))
 
-unfoldable pub declaration_in : ℕ → Reader Declaration
-declaration_in zero s ts = deep ts
-declaration_in (suc n) s ts = declaration_at n s ts
+-- a declaration that has declarators
+unfoldable pub declarators_at : ℕ → Reader Declaration
+declarators_at n s ts = specifiers_at (inner n) s ts >>= λ x. declares_at n x.0 (after_specs x.0 s) x.1
+
+unfoldable pub declarators_in : ℕ → Reader Declaration
+declarators_in zero s ts = deep ts
+declarators_in (suc n) s ts = declarators_at n s ts
 
 -- ---- statements
 
@@ -139,7 +143,7 @@ unfoldable pub do_while_at : Inner → Reader Stmt → Reader Stmt
 do_while_at r sub s ts = sub s ts >>= λ x. while_word x.1 >>= λ rest. test_at r s rest >>= λ y. semi_at y.1 >>= λ rest. Ok (DoWhile x.0 y.0, rest)
 
 unfoldable pub start_at : ℕ → Reader Start
-start_at n s ts = if starts_type s ts then (declaration_in n s ts >>= λ x. Ok (ForDeclares x.0, x.1)) else (optional_at ((inner n).expr 13) s ts >>= λ x. Ok (ForExpr x.0, x.1))
+start_at n s ts = if starts_type s ts then (declarators_in n s ts >>= λ x. Ok (ForDeclares x.0, x.1)) else (optional_at ((inner n).expr 13) s ts >>= λ x. Ok (ForExpr x.0, x.1))
 
 unfoldable pub for_rest : ℕ → Reader Stmt → Start → Reader Stmt
 for_rest n sub i s ts = optional_at ((inner n).expr 13) s ts >>= λ x. next_at ((inner n).expr 13) (after_optional x.0 s) x.1 >>= λ y. sub (after_optional y.0 (after_optional x.0 s)) y.1 >>= λ z. Ok (For i x.0 y.0 z.0, z.1)
@@ -191,7 +195,7 @@ outer_at n specs s ts = decl_at (inner n) Named s ts >>= λ x. choose (brace_at 
     (λ rest. body_at n specs x.0 (after_decl x.0 s) rest)
 
 unfoldable pub ext_at : ℕ → Reader Ext
-ext_at n s ts = specs_at (inner n) (length ts) false s ts >>= λ x. choose (ends_semi x.1) (outer_at n x.0 (after_specs x.0 s) x.1) (λ rest. Ok (Outer (Bare x.0), rest))
+ext_at n s ts = specifiers_at (inner n) s ts >>= λ x. choose (ends_semi x.1) (outer_at n x.0 (after_specs x.0 s) x.1) (λ rest. Ok (Outer (Bare x.0), rest))
 
 -- all of them, and else the tokens where none begins
 abbrev pub and_on : {A : Type 0} → Read A → List Token → (A × List Token → Result (List Ext) (List Token)) → Result (List Ext) (List Token)

@@ -3,7 +3,7 @@ use Rattle.std.specs.Prelude.{◌≡◌, ℕ, zero, suc, List, [], ◌∷◌, Op
 use Rattle.c_grammar.specs.declared.token.Allowed.TheVariants.{Named}
 use Rattle.c_grammar.specs.declared.token.Token.{Token}
 use Rattle.c_grammar.specs.declared.token.Token.TheVariants as token
-use Rattle.c_grammar.specs.Grammar.{Scope, bind, Expr, Specs, Decl, decl, Core, Absent, Id, Group, Suffixes, no_suffixes, suffix, Function, Params, Some_params, after, after_specs, after_decl, after_param, after_more, name_of, is_typedef, spell, spell_specs, spell_decl, spell_comma, Fits, FitsSpecs, FitsDecl, Within}
+use Rattle.c_grammar.specs.Grammar.{Scope, bind, Expr, Specs, Decl, decl, Core, Absent, Id, Group, Suffixes, no_suffixes, suffix, Function, Params, Some_params, after, after_specs, after_decl, after_param, after_more, name_of, is_typedef, spell, spell_specs, spell_decl, spell_comma, is_based, NoBase, Fits, FitsSpecifiers, FitsDecl, Within}
 
 -- ---- initial values (6.7.9)
 
@@ -99,9 +99,12 @@ abbrev pub FitsInits : ℕ → Bool → Scope → List Init → Type 0
 FitsInits n td s [] = Unit {0}
 FitsInits n td s (i ∷ is) = FitsInit n td s i × FitsInits n td (after_init td i s) is
 
+abbrev pub NoBaseFirst : Bool → Scope → Init → Type 0
+NoBaseFirst based s (init d value) = NoBase based s d
+
 abbrev pub FitsDeclaration : ℕ → Scope → Declaration → Type 0
-FitsDeclaration n s (Bare specs) = FitsSpecs n false s specs
-FitsDeclaration n s (Declares specs i is) = FitsSpecs n false s specs × FitsInits n (is_typedef specs) (after_specs specs s) (i ∷ is)
+FitsDeclaration n s (Bare specs) = FitsSpecifiers n s specs
+FitsDeclaration n s (Declares specs i is) = FitsSpecifiers n s specs × FitsInits n (is_typedef specs) (after_specs specs s) (i ∷ is) × NoBaseFirst (is_based false specs) (after_specs specs s) i
 
 -- ---- statements (6.8)
 
@@ -208,8 +211,13 @@ abbrev pub FitsOptional : ℕ → Scope → Option Expr → Type 0
 FitsOptional n s None = Unit {0}
 FitsOptional n s (Some e) = Fits n 13 s e
 
+-- a declaration that a `for` begins with has declarators (6.8.5.3)
+abbrev pub HasDeclarators : Declaration → Type 0
+HasDeclarators (Bare specs) = ⊥
+HasDeclarators (Declares specs i is) = Unit {0}
+
 abbrev pub FitsStart : ℕ → Scope → Start → Type 0
-FitsStart n s (ForDeclares d) = FitsDeclaration n s d
+FitsStart n s (ForDeclares d) = FitsDeclaration n s d × HasDeclarators d
 FitsStart n s (ForExpr e) = FitsOptional n s e
 
 -- What stands in a block, in parentheses, in a statement or behind a label has one nesting less.
@@ -304,7 +312,8 @@ after_ext (Defines specs d body) s = declared (is_typedef specs) d (after_specs 
 
 abbrev pub FitsExt : ℕ → Scope → Ext → Type 0
 FitsExt n s (Outer d) = FitsDeclaration n s d
-FitsExt n s (Defines specs d body) = FitsSpecs n false s specs × FitsDecl n Named (after_specs specs s) d × WithinItems n (body_scope (is_typedef specs) d (after_decl d (after_specs specs s))) body
+FitsExt n s (Defines specs d body) =
+    FitsSpecifiers n s specs × FitsDecl n Named (after_specs specs s) d × WithinItems n (body_scope (is_typedef specs) d (after_decl d (after_specs specs s))) body × NoBase (is_based false specs) (after_specs specs s) d
 
 abbrev pub spell_exts : List Ext → List Token → List Token
 spell_exts [] rest = rest

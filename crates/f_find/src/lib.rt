@@ -4,5 +4,5 @@
 mod scope_names;
 mod scopes_around;
 
-pub use scope_names::denoted;
+pub use scope_names::{denoted, merge};
 pub use scopes_around::{visible, visible_around};

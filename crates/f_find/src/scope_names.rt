@@ -24,7 +24,7 @@ fn other_of(own: usize, used: Option<Origins>) -> Option<usize>
 }
 
 /// The entities of an own declaration and of those that are used.
-fn merge(own: Option<usize>, used: Option<Origins>) -> Option<Origins>
+pub fn merge(own: Option<usize>, used: Option<Origins>) -> Option<Origins>
     ensures { result ≡ Rattle.f_find.specs.Merge.merge own used }
 {
     match own {

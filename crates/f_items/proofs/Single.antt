@@ -77,7 +77,7 @@ names_unit : (p : List Located) (name : List ℕ) (m : ℕ) (i : IsModule p name
 names_unit p name m i = record { item = i.located; what = i.what; at = i.at; item_is = i.item_is; unit_name = i.unit_name; name_is = i.name_is }
 
 -- the items at one place are one
-some_one : {A : Type 0} (o : Option A) (x y : A) → o ≡ Some x → o ≡ Some y → x ≡ y
+pub some_one : {A : Type 0} (o : Option A) (x y : A) → o ≡ Some x → o ≡ Some y → x ≡ y
 some_one o x y e f = let d : Some x ≡ Some y = sym e ∙ f in cc
 
 pub one_module : (p : List Located) → IsKept p → (name : List ℕ) (m n : ℕ) → IsModule p name m → IsModule p name n → m ≡ n

@@ -1,9 +1,11 @@
 -- What follows from the rules on names.
-use Rattle.std.specs.Prelude.{◌≡◌, ℕ, List, [], Some}
+use Rattle.std.specs.Prelude.{◌≡◌, ℕ, List, [], Option, Some}
 use Rattle.f_items.specs.declared.item.Name.{Name}
 use Rattle.f_items.specs.Places.{Open, Located, At}
 use Rattle.f_items.specs.Declarations.{IsDeclared}
 use Rattle.f_items.specs.Accessible.{IsModule, IsUsed, Denotes, Visible}
+use Rattle.f_items.specs.declared.item.Item.TheVariants.{Selects}
+use Rattle.f_items.specs.Selections.{SelectsFrom, IsPartOf, IsComponent}
 use Rattle.f_items.specs.Rules.{Finds, Breaks, sought}
 use Rattle.f_items.specs.Order.{InOrder}
 use Rattle.f_items.specs.Scoped.{BreaksFirst, IsKept}
@@ -15,6 +17,19 @@ FindsOne = (p : List Located) (k : ℕ) (l : Located) → ((rule : ℕ) → Brea
 -- and what it seeks isn't missing
 abbrev pub FindsSome : Type 0
 FindsSome = (p : List Located) (k : ℕ) (l : Located) (n : Name) → ((rule : ℕ) → Breaks p k l rule → ⊥) → sought l.item ≡ Some n → ((j : ℕ) → Finds p l j → ⊥) → ⊥
+
+-- a part of a reference has one type at most
+abbrev pub OnePartType : Type 0
+OnePartType = (p : List Located) (k : ℕ) (a b : Option ℕ) → IsPartOf p k a → IsPartOf p k b → a ≡ b
+
+-- a selection has one part before it at most
+abbrev pub OnePartBefore : Type 0
+OnePartBefore = (p : List Located) (k i j : ℕ) → SelectsFrom p k i → SelectsFrom p k j → i ≡ j
+
+-- a selection from what is of a derived type, which breaks no rule, doesn't miss its component
+abbrev pub SelectsSome : Type 0
+SelectsSome = (p : List Located) (k : ℕ) (l : Located) (n : Name) (j t : ℕ) → ((rule : ℕ) → Breaks p k l rule → ⊥) → l.item ≡ Selects n → SelectsFrom p k j
+    → IsPartOf p j (Some t) → ((c : ℕ) → IsComponent p t n.bytes c → ⊥) → ⊥
 
 -- where no rule is broken, a scope declares a name once
 abbrev pub DeclaresOnce : Type 0

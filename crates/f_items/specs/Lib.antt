@@ -1,6 +1,7 @@
 pub mod Places
 pub mod Declarations
 pub mod Accessible
+pub mod Selections
 pub mod Rules
 pub mod Order
 pub mod Scoped

@@ -14,6 +14,7 @@ use Rattle.f_items.specs.declared.item.Share.TheVariants.{Announced}
 use Rattle.f_items.specs.Places.{Located, scope_of, around, At}
 use Rattle.f_items.specs.Declarations.{Declaration, declaration_of, IsDeclared, Clash}
 use Rattle.f_items.specs.Accessible.{Stands, IsModule, is_public, IsEntity, Denotes, IsUsed, Visible}
+use Rattle.f_items.specs.Selections.{SelectsFrom, IsPartOf, IsComponent}
 
 -- ---- what a reference finds
 
@@ -56,6 +57,8 @@ fits need.Interface class.AbstractInterface = true
 fits need.Interface _ = false
 fits need.Variable class.Data = true
 fits need.Variable _ = false
+fits need.Object class.Data = true
+fits need.Object _ = false
 fits need.Accessible class.UnitName = false
 fits need.Accessible _ = true
 
@@ -92,6 +95,8 @@ pub data Breaks (p : List Located) (k : ℕ) (l : Located) : ℕ → Type 0 wher
   -- N02: a name is declared, and so is what a head announces
   OnlyAnnounced : (d : Declaration) → declaration_of l ≡ Some d → d.what.share ≡ Announced → ((j : ℕ) → IsDeclared p d.scope d.what.name.bytes j → ⊥) → Breaks p k l 2
   NotDeclared : (n : Name) → sought l.item ≡ Some n → ((j : ℕ) → Finds p l j → ⊥) → Breaks p k l 2
+  -- the derived type of what a component is selected from declares it. That there is a derived type is a rule on types (9.4.2)
+  NoComponent : (n : Name) (j t : ℕ) → l.item ≡ Selects n → SelectsFrom p k j → IsPartOf p j (Some t) → ((c : ℕ) → IsComponent p t n.bytes c → ⊥) → Breaks p k l 2
   -- N03: a used name is public
   NotPublic : (m : List ℕ) (local used : Name) (is_renamed : Bool) (t j : ℕ) → l.item ≡ Takes m local used is_renamed → IsModule p m t → Finds p l j
       → is_public p t used.bytes ≡ false → Breaks p k l 3

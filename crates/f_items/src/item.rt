@@ -74,8 +74,21 @@ pub enum Need {
     Interface,
     /// A variable that is named alone.
     Variable,
+    /// A data object of which a component is selected.
+    Object,
     /// What has an accessibility.
     Accessible,
+}
+
+/// What a declaration says of a name's type (ISO/IEC 1539-1:2018, 7.3.2).
+#[derive(Drop)]
+pub enum DeclaredType {
+    /// It has none, or an intrinsic one, or TYPE(*).
+    NotDerived,
+    /// The derived type of this name.
+    Derived(List<u8>),
+    /// That of the selector with this name, which is found outside the construct (11.1.10.3).
+    OfSelector(List<u8>),
 }
 
 /// A name that is declared.
@@ -84,8 +97,8 @@ pub struct Declared {
     pub name: Name,
     pub class: Class,
     pub share: Share,
-    /// The name of its derived type, where it has one.
-    pub of_type: Option<List<u8>>,
+    /// Its type.
+    pub of_type: DeclaredType,
     /// The accessibility that its declaration says.
     pub access: Option<Access>,
 }
@@ -134,7 +147,7 @@ pub enum Item {
         name: Name,
         need: Need,
     },
-    /// A reference to a component of what is named before it.
+    /// A reference to a component of the part of a reference before it, behind which parentheses may stand (ISO/IEC 1539-1:2018, 9.4.2).
     Selects(Name),
     /// What stands in parentheses behind a name begins.
     Inside,

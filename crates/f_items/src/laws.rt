@@ -1,6 +1,6 @@
 //! What follows from the rules on names, each law the contract of a function that does nothing.
 
-ghost use Rattle.f_items.specs.Laws.{FindsOne, FindsSome, DeclaresOnce, DeclaresNoneUsed, OneModule, OneOrder, OneFirst, NoneFirst};
+ghost use Rattle.f_items.specs.Laws.{FindsOne, FindsSome, OnePartType, OnePartBefore, SelectsSome, DeclaresOnce, DeclaresNoneUsed, OneModule, OneOrder, OneFirst, NoneFirst};
 
 /// A reference that breaks no rule finds one declaration at most.
 pub fn a_reference_finds_one_declaration()
@@ -10,6 +10,21 @@ pub fn a_reference_finds_one_declaration()
 /// A reference that breaks no rule doesn't find nothing.
 pub fn a_reference_finds_a_declaration()
     ensures { FindsSome }
+{}
+
+/// A part of a reference has one type at most.
+pub fn a_part_has_one_type()
+    ensures { OnePartType }
+{}
+
+/// A selection has one part before it at most.
+pub fn a_selection_has_one_part_before()
+    ensures { OnePartBefore }
+{}
+
+/// A selection from what is of a derived type, which breaks no rule, doesn't miss its component.
+pub fn a_selection_finds_a_component()
+    ensures { SelectsSome }
 {}
 
 /// Where no rule is broken, a scope declares a name once.

@@ -10,7 +10,7 @@ use crate::lists::unit_places;
 use crate::walk::{Broken, first_of};
 use f_items::Item;
 use f_order::{Resolution, Resolved, resolve};
-use f_rules::NameRule;
+use f_rules::{NameRule, part_types};
 use f_scope::{Begun, Program, begin};
 use f_stated::state;
 use std::alloc::{AllocError, Global};
@@ -35,8 +35,10 @@ fn check_resolved(alloc: Global, resolved: Resolved) -> Result<Checked, AllocErr
         resolved.program.stated().program(),
         resolved.units.as_slice(),
     )?;
+    let types = part_types(alloc, &resolved.program)?;
     let first = first_of(
         &resolved.program,
+        types.as_slice(),
         lists.as_slice(),
         resolved.order.as_slice(),
     );

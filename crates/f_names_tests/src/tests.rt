@@ -5,14 +5,15 @@ mod checked;
 mod faults;
 mod names;
 mod scene;
+mod selections;
 mod units;
 
 use f_find::visible;
 use f_items::Item;
 use f_names::{Checked, check_names};
 use f_order::{Resolution, Resolved, resolve};
-use f_rules::{NameRule, broken_rule, stand_at};
-use f_scope::{Begun, begin};
+use f_rules::{NameRule, broken_rule, part_types, stand_at};
+use f_scope::{Begun, begin, item_count};
 use f_stated::state;
 use f_use::{Associated, Origins};
 use scene::items_of;
@@ -56,9 +57,10 @@ fn add(text: &mut String, word: &str) -> Result<(), AllocError> {
 }
 
 fn show_rules(alloc: Global, program: &Associated, text: &mut String) -> Result<(), AllocError> {
-    let count = program.stated().program().parts().items.len();
+    let count = item_count(program.stated().program());
+    let types = part_types(alloc, program)?;
     for place in 0..count {
-        if let Some(rule) = broken_rule(program, place) {
+        if let Some(rule) = broken_rule(program, types.as_slice(), place) {
             let number = number_of(rule);
             add(text, format!(in alloc; "{place}:N0{number}")?.as_str())?;
         }

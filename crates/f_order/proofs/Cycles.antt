@@ -183,7 +183,7 @@ module _ (o : Outline) (units modules : List Bool) (edges : List (List ℕ)) (g 
         let c : are_marked done (list_at edges u) ≡ true = all_are done (list_at edges u) (λ v w. (are.tells v).1 (r.modules_are v ((g.edges_are u v).0 w))) in
         ap (λ x. x && (not (marked done u) && are_marked done (list_at edges u))) a ∙ ap (λ x. x && are_marked done (list_at edges u)) b ∙ c
 
-    next_range : (u : ℕ) → is_next modules edges done u ≡ true → u < o.scopes
+    pub next_range : (u : ℕ) → is_next modules edges done u ≡ true → u < o.scopes
     next_range u e = g.within u (next_ready u e).is_unit
 
     next_least : (u : ℕ) → LeastFound (λ v. is_next modules edges done v) (Some u) → (v : ℕ) → IsReady o.items (reverse order) v → u ≤ v

@@ -91,7 +91,7 @@ pub record PairsBelow (P : ℕ → ℕ → ℕ → Type 0) (lists : List (List �
 abbrev pub EdgesBelow : List Located → List (List ℕ) → ℕ → Type 0
 EdgesBelow p edges n = PairsBelow (UsesModule p) edges n
 
-no_list : (c u : ℕ) → list_at (replicate c []) u ≡ []
+pub no_list : (c u : ℕ) → list_at (replicate c []) u ≡ []
 no_list c u = pick (ltb u c) refl where
   long : (lists : List (List ℕ)) → lists ≡ replicate c [] → length lists ≡ c
   long lists e = ap length e ∙ length-replicate c []
@@ -111,10 +111,10 @@ pairs_none P c = record { sound = λ u m a. sound u m (let Q : List ℕ → Type
 pub edges_none : (p : List Located) (c : ℕ) → EdgesBelow p (replicate c []) 0
 edges_none p c = pairs_none (UsesModule p) c
 
-put-here : (lists : List (List ℕ)) (at n : ℕ) → at < length lists → list_at (put_at lists at n) at ≡ list_at lists at ++ n ∷ []
+pub put-here : (lists : List (List ℕ)) (at n : ℕ) → at < length lists → list_at (put_at lists at n) at ≡ list_at lists at ++ n ∷ []
 put-here lists at n lt = ap (λ b. list_at (cond b (set lists at (list_at lists at ++ n ∷ [])) lists) at) (lt-ltb at (length lists) lt) ∙ get_or-set_same lists at (list_at lists at ++ n ∷ []) [] lt
 
-put-there : (lists : List (List ℕ)) (at n u : ℕ) → (u ≡ at → ⊥) → list_at (put_at lists at n) u ≡ list_at lists u
+pub put-there : (lists : List (List ℕ)) (at n u : ℕ) → (u ≡ at → ⊥) → list_at (put_at lists at n) u ≡ list_at lists u
 put-there lists at n u apart = pick (ltb at (length lists)) where
   pick : (b : Bool) → list_at (cond b (set lists at (list_at lists at ++ n ∷ [])) lists) u ≡ list_at lists u
   pick true = get_or-set_other lists at u (list_at lists at ++ n ∷ []) [] apart

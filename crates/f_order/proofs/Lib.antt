@@ -3,4 +3,5 @@ pub mod Numbers
 pub mod Edges
 pub mod Search
 pub mod Cycles
+pub mod Waits
 pub mod Behind

@@ -6,11 +6,10 @@ ghost use Rattle.f_order.specs.Units.{AreUnits};
 ghost use Rattle.f_order.specs.Graph.{AreEdges};
 ghost use Rattle.f_order.specs.Order.{CycleFound};
 
-use crate::graph::item_count;
 use crate::marks::is_marked;
 use crate::reach::reached_from;
 use crate::units::edge_at;
-use f_scope::Program;
+use f_scope::{Program, item_count};
 use f_use::Places;
 use std::alloc::{AllocError, Global};
 

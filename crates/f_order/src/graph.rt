@@ -2,15 +2,14 @@
 
 ghost use Rattle.std.specs.Prelude.{◌≡◌, OnOk, IfOk, Decides};
 ghost use Rattle.f_items.specs.Order.{IsUnit, IsModuleUnit};
-ghost use Rattle.f_use.specs.Places.{put_at};
 ghost use Rattle.f_order.specs.Units.{AreUnits};
 ghost use Rattle.f_order.specs.Graph.{AreEdges, put_some};
 ghost use Rattle.f_order.specs.Marks.{marked};
 
 use crate::marks::{mark_some, no_marks};
 use crate::units::{Edge, edge_at, module_at, unit_at};
-use f_scope::Program;
-use f_use::Places;
+use f_scope::{Program, item_count, scope_count};
+use f_use::{Places, no_lists, put_at};
 use std::alloc::{AllocError, Global};
 
 /// What is known of units, by the numbers of their scopes, lent: which there are, in which a module is, and on which others each depends.
@@ -19,20 +18,6 @@ pub(crate) struct Graph<'a> {
     pub(crate) units: &'a [bool],
     pub(crate) modules: &'a [bool],
     pub(crate) edges: &'a [Places],
-}
-
-/// How many items a program has.
-pub(crate) fn item_count(program: &Program) -> usize
-    ensures { result ≡ Rattle.std.specs.Prelude.length program.now.items }
-{
-    program.parts().items.len()
-}
-
-/// How many scopes it has.
-pub(crate) fn scope_count(program: &Program) -> usize
-    ensures { result ≡ program.now.scopes }
-{
-    program.parts().scopes.len()
 }
 
 /// Marks the units in which items stand.
@@ -71,27 +56,6 @@ pub(crate) fn mark_modules(
         place += 1;
     }
     Ok(marks)
-}
-
-/// So many empty lists.
-pub(crate) fn no_lists(alloc: Global, count: usize) -> Result<Vec<Places>, AllocError>
-    ensures { IfOk result (λ lists. lists.items ≡ Rattle.std.specs.Prelude.replicate count Rattle.std.specs.Prelude.[]) }
-{
-    let mut lists = Vec::new(alloc);
-    'numbers: while lists.len() < count {
-        lists.push(Places::new(alloc))?;
-    }
-    Ok(lists)
-}
-
-/// Puts a number into the list with another.
-pub(crate) fn put_at(lists: &mut Vec<Places>, at: usize, number: usize) -> Result<(), AllocError>
-    ensures { OnOk result (lists.new.items ≡ put_at lists.old.items at number) }
-{
-    if at < lists.len() {
-        lists[at].push(number)?;
-    }
-    Ok(())
 }
 
 /// Puts an edge into the list of its unit, if there is one.

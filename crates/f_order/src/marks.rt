@@ -1,7 +1,7 @@
 //! Numbers that are marked.
 
 ghost use Rattle.std.specs.Prelude.{◌≡◌, IfOk, false, replicate};
-ghost use Rattle.f_order.specs.Marks.{marked, set_mark, set_some, are_marked};
+ghost use Rattle.f_order.specs.Marks.{marked, set_mark, set_some};
 
 use std::alloc::{AllocError, Global};
 
@@ -44,19 +44,4 @@ pub(crate) fn no_marks(alloc: Global, count: usize) -> Result<Vec<bool>, AllocEr
         marks.push(false)?;
     }
     Ok(marks)
-}
-
-/// Whether all these numbers are marked.
-#[tactic(auto, unfolding(crate::specs::Marks::are_marked))]
-pub(crate) fn are_marked(marks: &[bool], numbers: &[usize]) -> bool
-    ensures { result ≡ are_marked marks.now numbers.now }
-{
-    let mut rest = numbers;
-    'numbers: while let Some((number, behind)) = rest.split_first() {
-        if !is_marked(marks, *number) {
-            return false;
-        }
-        rest = behind;
-    }
-    true
 }

@@ -1,15 +1,16 @@
 //! The order in which units are looked at.
 
-ghost use Rattle.std.specs.Prelude.{◌≡◌, ◌++◌, ◌∷◌, ◌<◌, [], OnOk, IfOk, true};
+ghost use Rattle.std.specs.Prelude.{◌≡◌, ◌++◌, ◌∷◌, ◌<◌, [], OnOk, IfOk, false, replicate};
 ghost use Rattle.f_order.specs.Marks.{set_mark};
 ghost use Rattle.f_order.specs.Units.{AreUnits};
-ghost use Rattle.f_order.specs.Graph.{IsGraph, is_next, is_other, LeastFound};
+ghost use Rattle.f_order.specs.Graph.{IsGraph, is_other, LeastFound};
 ghost use Rattle.f_order.specs.Order.{IsUnitOrder, AreDone, AllModules, ModulesDone, OthersDone};
 
 use crate::cycle::first_on_cycle;
-use crate::graph::{Graph, find_edges, mark_modules, mark_units, scope_count};
-use crate::marks::{are_marked, is_marked, mark, no_marks};
-use f_scope::Program;
+use crate::graph::{Graph, find_edges, mark_modules, mark_units};
+use crate::marks::{is_marked, mark, no_marks};
+use crate::ready::{next_module, release, users_of, wait_for_uses};
+use f_scope::{Program, scope_count};
 use f_use::places_in;
 use std::alloc::{AllocError, Global};
 
@@ -22,34 +23,11 @@ pub enum UnitOrder {
     Ordered(Vec<usize>),
 }
 
-/// Whether a module wasn't looked at, and those that it uses were.
-fn is_next(graph: &Graph<'_>, done: &[bool], unit: usize) -> bool
-    ensures { result ≡ is_next graph.now.modules.now graph.now.edges.now done.now unit }
-{
-    is_marked(graph.modules, unit)
-        && !is_marked(done, unit)
-        && are_marked(done, places_in(graph.edges, unit))
-}
-
 /// Whether there is such a unit that wasn't looked at.
 fn is_other(units: &[bool], done: &[bool], unit: usize) -> bool
     ensures { result ≡ is_other units.now done.now unit }
 {
     is_marked(units, unit) && !is_marked(done, unit)
-}
-
-/// The first module that can be looked at.
-fn next_module(graph: &Graph<'_>, done: &[bool]) -> Option<usize>
-    ensures { LeastFound (λ u. is_next graph.now.modules.now graph.now.edges.now done.now u) result }
-{
-    let mut unit = 0;
-    'units: while unit < graph.modules.len() {
-        if is_next(graph, done, unit) {
-            return Some(unit);
-        }
-        unit += 1;
-    }
-    None
 }
 
 /// The first of these units that wasn't looked at.
@@ -76,8 +54,10 @@ fn take(order: &mut Vec<usize>, done: &mut Vec<bool>, unit: usize) -> Result<(),
     Ok(())
 }
 
-/// Puts modules behind one another as long as one can be looked at.
+/// Puts modules behind one another as long as one can be looked at, where none was. It takes time in proportion to the edges, and to the modules that are
+/// ready at once by the logarithm of their number.
 fn order_modules(
+    alloc: Global,
     program: &Program,
     graph: &Graph<'_>,
     order: &mut Vec<usize>,
@@ -85,11 +65,15 @@ fn order_modules(
 ) -> Result<(), AllocError>
     requires graph { IsGraph program.now graph.now.units.now graph.now.modules.now graph.now.edges.now }
     requires done { AreDone program.now order.old.items done.old.items }
+    requires none { done.old.items ≡ replicate program.now.scopes false }
     ensures { OnOk result (ModulesDone program.now graph.now.modules.now graph.now.edges.now order.new.items done.new.items) }
 {
-    let _count = scope_count(program);
-    'modules: while let Some(unit) = next_module(graph, done.as_slice()) {
+    let users = users_of(alloc, graph.edges, scope_count(program))?;
+    let mut waiting = wait_for_uses(alloc, graph, done.as_slice())?;
+    'modules: while let Some(unit) = next_module(&mut waiting) {
         take(order, done, unit)?;
+        let using = places_in(users.as_slice(), unit);
+        release(graph, done.as_slice(), &mut waiting, using)?;
     }
     Ok(())
 }
@@ -144,7 +128,7 @@ fn order_in(
 {
     let mut order = Vec::new(alloc);
     let mut done = no_marks(alloc, scope_count(program))?;
-    order_modules(program, graph, &mut order, &mut done)?;
+    order_modules(alloc, program, graph, &mut order, &mut done)?;
     match first_other(graph.modules, done.as_slice()) {
         None => {
             order_others(program, graph, &mut order, &mut done)?;

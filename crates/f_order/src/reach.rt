@@ -4,9 +4,8 @@ ghost use Rattle.std.specs.Prelude.{◌≡◌, ◌<◌, OnOk, IfOk, slice_get};
 ghost use Rattle.f_order.specs.Graph.{AreEdges, AreInside, AreReached};
 ghost use Rattle.f_order.specs.Reach.{extended_one, extended};
 
-use crate::graph::scope_count;
 use crate::marks::{is_marked, mark, no_marks};
-use f_scope::Program;
+use f_scope::{Program, scope_count};
 use f_use::{Places, places_in};
 use std::alloc::{AllocError, Global};
 

@@ -6,12 +6,11 @@ ghost use Rattle.f_use.specs.Associated.{IsOrder};
 ghost use Rattle.f_order.specs.Units.{AreUnits};
 ghost use Rattle.f_order.specs.Scopes.{AreMembers, UnitsIn, ScopesIn};
 
-use crate::graph::{no_lists, put_at, scope_count};
 use crate::marks::no_marks;
 use crate::reach::{extend, extend_one};
 use crate::units::number_at;
-use f_scope::Program;
-use f_use::{Places, places_in};
+use f_scope::{Program, scope_count};
+use f_use::{Places, no_lists, places_in, put_at};
 use std::alloc::{AllocError, Global};
 
 /// The scopes in each unit, by its number.

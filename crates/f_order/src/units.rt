@@ -20,6 +20,7 @@ pub struct Edge {
     pub module_unit: usize,
 }
 
+/// The unit of a scope by a table of them.
 pub(crate) fn number_at(units: &[usize], scope: usize) -> usize
     ensures { result ≡ number_at units.now scope }
 {
@@ -71,7 +72,7 @@ fn item_at(items: &[Placed], place: usize) -> Option<&Placed>
 }
 
 /// The unit in which the item at a place stands.
-pub(crate) fn unit_at(program: &Program, units: &[usize], place: usize) -> Option<usize>
+pub fn unit_at(program: &Program, units: &[usize], place: usize) -> Option<usize>
     requires { AreUnits program.now units.now }
     ensures { UnitFound program.now.items place result }
 {

@@ -11,7 +11,9 @@ use Rattle.f_items.specs.declared.item.Share.TheVariants.{Announced}
 use Rattle.f_items.specs.Places.{Located, scope_of, host_of, At}
 use Rattle.f_items.specs.Declarations.{Declaration, declaration_of, declared_by, IsDeclared}
 use Rattle.f_items.specs.Accessible.{Stands, IsModule, is_public, IsUsed, IsEntity, Denotes}
-use Rattle.f_items.specs.Rules.{Finds, FindsVisible, FindsOutside, FindsOwn, FindsUsed, sought, need_of, fits, is_iso_c_binding, IsTwice, Breaks, DeclaredTwice, DeclaredAndUsed, DeclaredAndImported, OnlyAnnounced, NotDeclared, NotPublic, NoModule, NotIntrinsic, FromTwo, NotTyped, NotFit}
+use Rattle.f_items.specs.Selections.{open_before, SelectsFrom, IsPartOf, IsComponent}
+use Rattle.f_items.proofs.Selected.{last_part_one, part_type_one}
+use Rattle.f_items.specs.Rules.{Finds, FindsVisible, FindsOutside, FindsOwn, FindsUsed, sought, need_of, fits, is_iso_c_binding, IsTwice, Breaks, DeclaredTwice, DeclaredAndUsed, DeclaredAndImported, OnlyAnnounced, NotDeclared, NoComponent, NotPublic, NoModule, NotIntrinsic, FromTwo, NotTyped, NotFit}
 use Rattle.f_scope.specs.declared.name_rule.Rule.{Rule}
 use Rattle.f_scope.specs.declared.name_rule.Rule.TheVariants as alone
 use Rattle.f_scope.specs.Alone.{BreaksDeclared, Twice, Lacking, DeclaredFound}
@@ -23,8 +25,11 @@ use Rattle.f_use.specs.Associated.{Found, OthersFound}
 use Rattle.f_use.specs.Uses.{ModuleIn}
 use Rattle.f_rules.specs.declared.rule.NameRule.{NameRule}
 use Rattle.f_rules.specs.declared.rule.NameRule.TheVariants as rule
+use Rattle.f_rules.specs.declared.declared_types.PartType.{PartType}
+use Rattle.f_rules.specs.declared.declared_types.PartType.TheVariants.{Untold, NotDerived, Derived}
+use Rattle.f_rules.specs.PartTypes.{LastTold, ComponentOf}
 use Rattle.f_rules.specs.Standing.{ClassFound, ClassOf, IsIn}
-use Rattle.f_rules.specs.RuleOf.{number_of, RuleFound, class_fits, reference_rule, taken_rule, declared_rule, use_rule}
+use Rattle.f_rules.specs.RuleOf.{number_of, RuleFound, class_fits, reference_rule, taken_rule, declared_rule, use_rule, selection_rule}
 
 -- what an item does with names
 pub data Sort : Type 0 where
@@ -32,6 +37,7 @@ pub data Sort : Type 0 where
   Using : Sort
   Taking : Sort
   Referring : Sort
+  Selecting : Sort
   Untyping : Sort
   Silent : Sort
 
@@ -43,6 +49,7 @@ sort (Takes m l u r) = Taking
 sort (Imports n) = Referring
 sort (Accesses n a) = Referring
 sort (Refers n need) = Referring
+sort (Selects n) = Selecting
 sort (Untyped p) = Untyping
 sort _ = Silent
 
@@ -58,6 +65,7 @@ pub data Broken (p : List Located) (k : ℕ) (l : Located) : Sort → ℕ → Ty
   ReferredNone : ((j : ℕ) → Finds p l j → ⊥) → Broken p k l Referring 2
   ReferredTwo : (i j : ℕ) → Finds p l i → Finds p l j → (i ≡ j → ⊥) → Broken p k l Referring 6
   ReferredUnfit : (n : Need) (j : ℕ) (item : Located) (d : Declaration) → need_of l.item ≡ Some n → Finds p l j → At p j item → declaration_of item ≡ Some d → fits n d.what.class ≡ false → Broken p k l Referring 8
+  SelectedNone : (n : Name) (j t : ℕ) → l.item ≡ Selects n → SelectsFrom p k j → IsPartOf p j (Some t) → ((c : ℕ) → IsComponent p t n.bytes c → ⊥) → Broken p k l Selecting 2
   UsedAbsent : (place : Place) (m : Name) (i o : Bool) → l.item ≡ Uses place m i o → ((t : ℕ) → IsModule p m.bytes t → ⊥) → Broken p k l Using 4
   UsedOther : (place : Place) (m : Name) (o : Bool) → l.item ≡ Uses place m true o → is_iso_c_binding m.bytes ≡ false → Broken p k l Using 4
   IsUntyped : Broken p k l Untyping 7
@@ -101,6 +109,7 @@ module _ (p : List Located) (k : ℕ) (l : Located) where
     pick : (sort l.item ≡ Taking) ⊎ (sort l.item ≡ Referring) → Broken p k l (sort l.item) 2
     pick (inl s) = in_sort Taking 2 s (TakenNone none)
     pick (inr s) = in_sort Referring 2 s (ReferredNone none)
+  broken _ (NoComponent n j t is from part none) = in_sort Selecting 2 (ap sort is) (SelectedNone n j t is from part none)
   broken _ (NotPublic m lo u r t j is mo f deny) = in_sort Taking 3 (ap sort is) (TakenPrivate m lo u r t j is mo f deny)
   broken _ (NoModule place m i o is none) = in_sort Using 4 (ap sort is) (UsedAbsent place m i o is none)
   broken _ (NotIntrinsic place m o is deny) = in_sort Using 4 (ap sort is) (UsedOther place m o is deny)
@@ -125,6 +134,40 @@ module _ (p : List Located) (k : ℕ) (l : Located) where
   untyped place is = (NotTyped place is, λ r b. le r (broken_as Untyping (ap sort is) r b)) where
     le : (r : ℕ) → Broken p k l Untyping r → 7 ≤ r
     le _ IsUntyped = omega arith
+
+  -- ---- selections
+
+  module _ (n : Name) (is : l.item ≡ Selects n) where
+    from_two : (r : ℕ) → Broken p k l Selecting r → 2 ≤ r
+    from_two _ (SelectedNone _ _ _ _ _ _ _) = omega arith
+
+    least_two : (r : ℕ) → Breaks p k l r → 2 ≤ r
+    least_two r b = from_two r (broken_as Selecting (ap sort is) r b)
+
+    untold : LastTold p (open_before p k) k Untold → (r : ℕ) → Broken p k l Selecting r → ⊥
+    untold last _ (SelectedNone x j t js from part none) = last (Some t) (j, from, part)
+
+    plain : LastTold p (open_before p k) k NotDerived → (r : ℕ) → Broken p k l Selecting r → ⊥
+    plain last _ (SelectedNone x j u js from part none) =
+        let before = last_part_one p (open_before p k) j last.0 k from last.1 in
+        let Q : ℕ → Type 0 = λ w. IsPartOf p w (Some u) in
+        let bad : None ≡ Some u = part_type_one p last.0 None (Some u) last.2 (subst Q before part) in
+        cc
+
+    there : (t : ℕ) → LastTold p (open_before p k) k (Derived t) → (c : ℕ) → IsComponent p t n.bytes c → (r : ℕ) → Broken p k l Selecting r → ⊥
+    there t last c comp _ (SelectedNone x j u js from part none) =
+        let same : x ≡ n = (let both : Selects x ≡ Selects n = sym js ∙ is in cc) in
+        let before = last_part_one p (open_before p k) j last.0 k from last.1 in
+        let Q : ℕ → Type 0 = λ w. IsPartOf p w (Some u) in
+        let types : t ≡ u = (let both : Some t ≡ Some u = part_type_one p last.0 (Some t) (Some u) last.2 (subst Q before part) in cc) in
+        let C : ℕ → Name → Type 0 = λ w y. IsComponent p w y.bytes c in
+        none c (subst (λ y. C u y) (sym same) (subst (λ w. C w n) types comp))
+
+    pub selected : (base : PartType) → LastTold p (open_before p k) k base → (c : Option ℕ) → ComponentOf p base n.bytes c → RuleFound p k l (selection_rule base c)
+    selected Untold last c f = λ r b. untold last r (broken_as Selecting (ap sort is) r b)
+    selected NotDerived last c f = λ r b. plain last r (broken_as Selecting (ap sort is) r b)
+    selected (Derived t) last None f = (NoComponent n last.0 t is last.1 last.2 f, least_two)
+    selected (Derived t) last (Some c) f = λ r b. there t last c f r (broken_as Selecting (ap sort is) r b)
 
   -- ---- USE statements
 

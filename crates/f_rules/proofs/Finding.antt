@@ -25,7 +25,8 @@ use Rattle.f_use.specs.Associated.{Found, OthersFound}
 use Rattle.f_use.specs.Uses.{OwnEntity, class_in, declared_class}
 use Rattle.f_use.proofs.Grants.{one_own, as_used, used_denotes, none_seen, some_seen}
 use Rattle.f_find.proofs.Entities.{found_as}
-use Rattle.f_rules.specs.Standing.{IsAt, ClassFound, ClassOf, IsIn, other_of, merge}
+use Rattle.f_rules.specs.Standing.{IsAt, ClassFound, ClassOf, IsIn}
+use Rattle.f_find.specs.Merge.{other_of, merge}
 use Rattle.f_rules.specs.RuleOf.{RuleFound, reference_rule}
 use Rattle.f_rules.proofs.Breaking.{referred}
 

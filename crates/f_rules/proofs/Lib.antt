@@ -1,2 +1,4 @@
 pub mod Breaking
 pub mod Finding
+pub mod Types
+pub mod Levels

@@ -9,6 +9,8 @@ use Rattle.f_items.specs.Rules.{Breaks, fits, is_iso_c_binding}
 use Rattle.f_scope.specs.declared.name_rule.Rule.{Rule}
 use Rattle.f_scope.specs.declared.name_rule.Rule.TheVariants as alone
 use Rattle.f_use.specs.declared.origins.Origins.{Origins}
+use Rattle.f_rules.specs.declared.declared_types.PartType.{PartType}
+use Rattle.f_rules.specs.declared.declared_types.PartType.TheVariants.{Untold, NotDerived, Derived}
 use Rattle.f_rules.specs.declared.rule.NameRule.{NameRule}
 use Rattle.f_rules.specs.declared.rule.NameRule.TheVariants.{DeclaredOnce, Declared, Public, Present, Acyclic, Single, Typed, Fitting}
 
@@ -54,6 +56,13 @@ abbrev pub declared_rule : Option Rule → Bool → Bool → Option NameRule
 declared_rule (Some alone.DeclaredOnce) used imported = Some DeclaredOnce
 declared_rule (Some alone.Declared) used imported = if used then Some DeclaredOnce else (if imported then Some DeclaredOnce else Some Declared)
 declared_rule None used imported = if used then Some DeclaredOnce else (if imported then Some DeclaredOnce else None)
+
+-- what a selection breaks, by the type of the part before it
+abbrev pub selection_rule : PartType → Option ℕ → Option NameRule
+selection_rule Untold c = None
+selection_rule NotDerived c = None
+selection_rule (Derived t) None = Some Declared
+selection_rule (Derived t) (Some c) = None
 
 -- what a USE statement breaks
 abbrev pub use_rule : Option ℕ → Bool → List ℕ → Option NameRule

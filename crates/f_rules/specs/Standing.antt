@@ -5,7 +5,7 @@ use Rattle.jf_base.specs.declared.place.Place.{Place}
 use Rattle.f_items.specs.declared.item.Name.{Name}
 use Rattle.f_items.specs.declared.item.Access.{Access}
 use Rattle.f_items.specs.declared.item.Declared.{Declared as Named}
-use Rattle.f_items.specs.declared.item.Item.TheVariants.{Uses, Takes, Accesses}
+use Rattle.f_items.specs.declared.item.Item.TheVariants.{Uses, Takes, Accesses, Selects}
 use Rattle.f_items.specs.declared.item.Class.{Class}
 use Rattle.f_items.specs.Places.{Located, scope_of, host_of, At}
 use Rattle.f_items.specs.Declarations.{Declaration, declaration_of}
@@ -45,6 +45,9 @@ HasTaken p k m used = (local : Name) × (is_renamed : Bool) × (l : Located) × 
 abbrev pub HasAccess : List Located → ℕ → ℕ → Name → Type 0
 HasAccess p k scope n = (a : Access) × HasItem p k scope (Accesses n a)
 
+abbrev pub HasSelection : List Located → ℕ → Name → Type 0
+HasSelection p k n = (l : Located) × At p k l × (l.item ≡ Selects n)
+
 -- the class of what is declared at the place
 abbrev pub ClassFound : List Located → ℕ → Option Class → Type 0
 ClassFound p k None = (l : Located) (d : Declaration) → At p k l → declaration_of l ≡ Some d → ⊥
@@ -57,13 +60,3 @@ ClassOf p (Some o) c = ClassFound p o.first c
 -- the name denotes the entity in the module
 abbrev pub IsIn : List Located → ℕ → List ℕ → ℕ → Type 0
 IsIn p m name k = IsEntity p k × Denotes p m name k
-
--- ---- entities of an own declaration and of use association together
-
-abbrev pub other_of : ℕ → Option Origins → Option ℕ
-other_of own None = None
-other_of own (Some u) = if u.first == own then u.other else Some u.first
-
-abbrev pub merge : Option ℕ → Option Origins → Option Origins
-merge None used = used
-merge (Some own) used = Some (record { first = own; other = other_of own used })

@@ -2,13 +2,18 @@
 
 ghost use Rattle.std.specs.Prelude.{◌≡◌, ◌<◌};
 ghost use Rattle.f_items.specs.declared.item.Item.TheVariants.{Imports, Refers};
-ghost use Rattle.f_rules.specs.Standing.{IsAt, IsDeclaration, HasItem, HasUse, HasTaken, HasAccess};
+ghost use Rattle.f_items.specs.Selections.{open_before};
+ghost use Rattle.f_rules.specs.Standing.{IsAt, IsDeclaration, HasItem, HasUse, HasTaken, HasAccess, HasSelection};
+ghost use Rattle.f_rules.specs.PartTypes.{LastTold, ComponentOf, ArePartTypes};
 ghost use Rattle.f_rules.specs.RuleOf.{RuleAt};
 
-use crate::rule::{NameRule, declared_rule, reference_rule, taken_rule, use_rule};
+use crate::declared_types::{PartType, component_at};
+use crate::parts::type_in;
+use crate::rule::{NameRule, declared_rule, reference_rule, selection_rule, taken_rule, use_rule};
 use crate::stand::{class_of, entities_in, module_of, stand_at};
 use f_find::{denoted, visible, visible_around};
 use f_items::{Declared, Item, Name, Need};
+use f_scope::Program;
 use f_use::Associated;
 use jf_base::List;
 
@@ -109,15 +114,43 @@ fn broken_access(program: &Associated, place: usize, scope: usize, name: &Name) 
     reference_rule(found, class, Need::Accessible)
 }
 
-/// What an item breaks, by its scope and the scope around that.
+/// The component of this name, where the part before it is of a derived type.
+fn component_of(program: &Program, base: PartType, name: &[u8]) -> Option<usize>
+    ensures { ComponentOf program.now.items base name.now result }
+{
+    match base {
+        PartType::Derived(definition) => component_at(program, definition, name),
+        _ => None,
+    }
+}
+
+/// What a selection of a component breaks, by the type of the part before it.
+fn broken_selection(
+    program: &Associated,
+    place: usize,
+    base: PartType,
+    name: &Name,
+) -> Option<NameRule>
+    requires at { HasSelection program.now.items place name.now }
+    requires base { LastTold program.now.items (open_before program.now.items place) place base }
+    ensures { RuleAt program.now.items place result }
+{
+    let _place = place;
+    let component = component_of(program.stated().program(), base, name.bytes.as_slice());
+    selection_rule(base, component)
+}
+
+/// What an item breaks, by its scope and the scope around that, and by the type of the part before it.
 fn broken_item(
     program: &Associated,
+    base: PartType,
     place: usize,
     item: &Item,
     scope: usize,
     host: usize,
 ) -> Option<NameRule>
-    requires { IsAt program.now place item.now scope host }
+    requires at { IsAt program.now place item.now scope host }
+    requires base { LastTold program.now.items (open_before program.now.items place) place base }
     ensures { RuleAt program.now.items place result }
 {
     match item {
@@ -138,18 +171,27 @@ fn broken_item(
         Item::Imports(name) => broken_import(program, place, scope, name),
         Item::Accesses { name, access: _ } => broken_access(program, place, scope, name),
         Item::Refers { name, need } => broken_reference(program, place, scope, name, *need),
+        Item::Selects(name) => broken_selection(program, place, base, name),
         Item::Untyped { place: _ } => Some(NameRule::Typed),
         _ => None,
     }
 }
 
-/// The rule with the smallest number that the item at a place, counted from 0, breaks, if it breaks one. Of the rules on units, a name that two have and
-/// N05 are not among them. It takes a look-up a scope.
-pub fn broken_rule(program: &Associated, place: usize) -> Option<NameRule>
+/// The rule with the smallest number that the item at a place, counted from 0, breaks, if it breaks one, by the types of the parts before the items. Of the
+/// rules on units, a name that two have and N05 are not among them. It takes a look-up a scope.
+pub fn broken_rule(program: &Associated, types: &[PartType], place: usize) -> Option<NameRule>
+    requires { ArePartTypes program.now.items types.now }
     ensures { RuleAt program.now.items place result }
 {
     match stand_at(program.stated().program(), place) {
         None => None,
-        Some(stand) => broken_item(program, place, stand.item, stand.scope, stand.host),
+        Some(stand) => broken_item(
+            program,
+            type_in(types, place),
+            place,
+            stand.item,
+            stand.scope,
+            stand.host,
+        ),
     }
 }

@@ -2,8 +2,9 @@
 
 ghost use Rattle.std.specs.Prelude.{◌≡◌};
 ghost use Rattle.f_items.specs.Rules.{fits, is_iso_c_binding};
-ghost use Rattle.f_rules.specs.RuleOf.{class_fits, reference_rule, taken_rule, declared_rule, use_rule};
+ghost use Rattle.f_rules.specs.RuleOf.{class_fits, reference_rule, taken_rule, declared_rule, use_rule, selection_rule};
 
+use crate::declared_types::PartType;
 use f_items::{Class, Need};
 use f_scope::Rule;
 use f_use::Origins;
@@ -62,6 +63,10 @@ fn fits(need: Need, class: Class) -> bool
             _ => false,
         },
         Need::Variable => match class {
+            Class::Data => true,
+            _ => false,
+        },
+        Need::Object => match class {
             Class::Data => true,
             _ => false,
         },
@@ -151,6 +156,20 @@ pub(crate) fn declared_rule(
                 None
             }
         }
+    }
+}
+
+/// What a selection breaks by the type of the part before it, and by the component of its name.
+pub(crate) fn selection_rule(base: PartType, component: Option<usize>) -> Option<NameRule>
+    ensures { result ≡ selection_rule base component }
+{
+    match base {
+        PartType::Untold => None,
+        PartType::NotDerived => None,
+        PartType::Derived(_) => match component {
+            None => Some(NameRule::Declared),
+            Some(_) => None,
+        },
     }
 }
 

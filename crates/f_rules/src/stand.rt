@@ -4,8 +4,9 @@ ghost use Rattle.std.specs.Prelude.{◌≡◌, ◌<◌, slice_get};
 ghost use Rattle.std.specs.Option.{option_copied};
 ghost use Rattle.f_use.specs.Associated.{Found};
 ghost use Rattle.f_use.specs.Uses.{ModuleIn, declared_class};
-ghost use Rattle.f_rules.specs.Standing.{StandFound, ClassFound, ClassOf, IsIn, other_of, merge};
+ghost use Rattle.f_rules.specs.Standing.{StandFound, ClassFound, ClassOf, IsIn};
 
+use f_find::merge;
 use f_items::{Class, Item};
 use f_scope::{Placed, Program, host_in};
 use f_use::{Associated, Origins, entity_of};
@@ -75,33 +76,6 @@ pub(crate) fn module_of(program: &Program, name: &[u8]) -> Option<usize>
 {
     let _parts = program.parts();
     program.module(name)
-}
-
-fn other_of(own: usize, used: Option<Origins>) -> Option<usize>
-    ensures { result ≡ other_of own used }
-{
-    match used {
-        None => None,
-        Some(used) => {
-            if used.first == own {
-                used.other
-            } else {
-                Some(used.first)
-            }
-        }
-    }
-}
-
-fn merge(own: Option<usize>, used: Option<Origins>) -> Option<Origins>
-    ensures { result ≡ merge own used }
-{
-    match own {
-        None => used,
-        Some(own) => Some(Origins {
-            first: own,
-            other: other_of(own, used),
-        }),
-    }
 }
 
 /// The entities that the name denotes in the module with this scope, whether they are public or not.

@@ -5,6 +5,7 @@ use Rattle.f_items.specs.declared.item.Item.{Item}
 use Rattle.f_items.specs.declared.item.Item.TheVariants.{Enter, Leave, Declares}
 use Rattle.f_items.specs.declared.item.Class.{Class}
 use Rattle.f_items.specs.declared.item.Class.TheVariants as class
+use Rattle.f_items.specs.declared.item.DeclaredType.TheVariants.{NotDerived}
 use Rattle.f_items.specs.declared.item.Share.TheVariants.{Whole}
 use Rattle.f_items.specs.declared.item.ScopeKind.TheVariants as kind
 
@@ -14,7 +15,7 @@ no_place = record { file = 0; line = 0; column = 0 }
 
 -- a declaration that is there before a program
 abbrev pub built_in : Class → List ℕ → Item
-built_in c name = Declares (record { name = record { bytes = name; place = no_place }; class = c; share = Whole; of_type = None; access = None })
+built_in c name = Declares (record { name = record { bytes = name; place = no_place }; class = c; share = Whole; of_type = NotDerived; access = None })
 
 -- the intrinsic procedures (16.9)
 unfoldable pub intrinsic_names : List (List ℕ)

@@ -3,7 +3,7 @@
 ghost use Rattle.std.specs.Prelude.{◌≡◌, ◌++◌, ◌∷◌, [], IfOk, OnOk, map};
 ghost use Rattle.f_scope.specs.BuiltIn.{built_in, before_program};
 
-use f_items::{Class, Declared, Item, Name, ScopeKind, Share};
+use f_items::{Class, Declared, DeclaredType, Item, Name, ScopeKind, Share};
 use jf_base::{List, Place};
 use std::alloc::{AllocError, Global};
 
@@ -115,7 +115,7 @@ fn put_built_in(
         },
         class,
         share: Share::Whole,
-        of_type: None,
+        of_type: DeclaredType::NotDerived,
         access: None,
     }))?;
     Ok(())

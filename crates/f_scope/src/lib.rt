@@ -13,6 +13,6 @@ pub use built_in::before_program;
 pub use name_rule::{Rule, broken_by};
 pub use own::own_tables;
 pub use placement::{Placed, Placement, ScopeRow, host_in, place_items};
-pub use program::{Begun, Parts, Program, begin, entry_in};
+pub use program::{Begun, Parts, Program, begin, entry_in, item_count, scope_count};
 pub use table::{Entry, Table};
 pub use unit_names::{collect_unit_names, is_unit_name};

@@ -1,6 +1,6 @@
 //! A program whose scopes and declarations are known.
 
-ghost use Rattle.std.specs.Prelude.{◌≡◌, ◌<◌, [], IfOk, slice_get};
+ghost use Rattle.std.specs.Prelude.{◌≡◌, ◌<◌, [], IfOk, length, slice_get};
 ghost use Rattle.std.specs.Option.{option_copied};
 ghost use Rattle.f_items.specs.Places.{located};
 ghost use Rattle.f_scope.specs.Own.{IsTold};
@@ -201,6 +201,20 @@ impl Program {
             self.units.find(name),
         )
     }
+}
+
+/// How many items a program has.
+pub fn item_count(program: &Program) -> usize
+    ensures { result ≡ length program.now.items }
+{
+    program.parts().items.len()
+}
+
+/// How many scopes it has.
+pub fn scope_count(program: &Program) -> usize
+    ensures { result ≡ program.now.scopes }
+{
+    program.parts().scopes.len()
 }
 
 /// Puts items into their scopes and looks up what each scope declares. It takes time in proportion to the items.

@@ -6,6 +6,7 @@ use Rattle.std.proofs.lemmas.List.{get_or-replicate, length-append, append_assoc
 use Rattle.std.proofs.lemmas.Option.{slice_get_within}
 use Rattle.std.proofs.Math.ListN.{set}
 use Rattle.f_items.specs.declared.item.Class.TheVariants as class
+use Rattle.f_items.specs.declared.item.DeclaredType.TheVariants.{NotDerived}
 use Rattle.f_items.specs.declared.item.Share.TheVariants as share
 use Rattle.f_items.specs.Places.{Located, scope_of, host_of, At}
 use Rattle.f_items.specs.Declarations.{Declaration}
@@ -23,7 +24,7 @@ use Rattle.f_stated.specs.Said.{Key, key_by, key_of, key_at, Says, IsSaid, AreSa
 
 -- a key as a declaration, for which tables are known already
 as_declaration : Key → Declaration
-as_declaration k = record { scope = k.0; what = record { name = record { bytes = k.1; place = no_place }; class = class.Data; share = share.Whole; of_type = None; access = None } }
+as_declaration k = record { scope = k.0; what = record { name = record { bytes = k.1; place = no_place }; class = class.Data; share = share.Whole; of_type = NotDerived; access = None } }
 
 as_declarations : Option Key → Option Declaration
 as_declarations None = None

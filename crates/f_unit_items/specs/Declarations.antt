@@ -35,12 +35,13 @@ use Rattle.f_tree.specs.declared.declaration.ProcedurePointers.{ProcedurePointer
 use Rattle.f_items.specs.declared.item.Access.{Access}
 use Rattle.f_items.specs.declared.item.Access.TheVariants as access
 use Rattle.f_items.specs.declared.item.Class.TheVariants as class
+use Rattle.f_items.specs.declared.item.DeclaredType.TheVariants.{NotDerived}
 use Rattle.f_items.specs.declared.item.Need.TheVariants as need
 use Rattle.f_items.specs.declared.item.ScopeKind.TheVariants as kind
 use Rattle.f_items.specs.declared.item.Share.TheVariants.{Whole, Typed}
 use Rattle.f_items.specs.declared.item.Item.TheVariants.{Enter, Leave, Uses, Takes, ImportsAll, Imports, Default, Accesses}
 use Rattle.f_unit_items.specs.Fronts.{Front, name_of, refers, declares, heads, kind_name, each, if_there}
-use Rattle.f_unit_items.specs.Expressions.{expression, type_spec, type_name}
+use Rattle.f_unit_items.specs.Expressions.{expression, type_spec, declared_type}
 
 -- ---- accessibility (8.5.2): the first that is said
 
@@ -110,7 +111,7 @@ initial_value (initial.Null p) rest = rest
 
 -- a name that is declared with a type
 abbrev pub entity : TypeSpec → Option Access → Entity → Front
-entity t a e rest = declares e.name class.Data Typed (type_name t) a (if_there dimensions e.dimensions (if_there initial_value e.initial rest))
+entity t a e rest = declares e.name class.Data Typed (declared_type t) a (if_there dimensions e.dimensions (if_there initial_value e.initial rest))
 
 abbrev pub variables : Variables → Front
 variables v rest = type_spec v.declared (each (map attribute v.attributes) (each (map (entity v.declared (access_among v.attributes)) v.entities) rest))
@@ -122,7 +123,7 @@ type_attribute (type_form.Bind p b) rest = bind_list b rest
 type_attribute (type_form.Access p a) rest = rest
 
 abbrev pub field : TypeSpec → Field → Front
-field t f rest = declares f.name class.Component Whole (type_name t) None (if_there dimensions f.dimensions rest)
+field t f rest = declares f.name class.Component Whole (declared_type t) None (if_there dimensions f.dimensions rest)
 
 abbrev pub component : Component → Front
 component c rest = type_spec c.declared (if_there dimensions c.dimensions (each (map (field c.declared) c.fields) rest))
@@ -177,7 +178,7 @@ abbrev pub access_statement : AccessStatement → Front
 access_statement a rest = accessed_names (access_of a.access) a.names rest
 
 abbrev pub procedure_pointer : Option Access → ProcedurePointer → Front
-procedure_pointer a p rest = declares p.name class.ProcedurePointer Whole None a rest
+procedure_pointer a p rest = declares p.name class.ProcedurePointer Whole NotDerived a rest
 
 abbrev pub procedure_pointers : ProcedurePointers → Front
 procedure_pointers p rest = refers p.interface need.Interface (each (map (procedure_pointer (pointer_access p.attributes)) p.pointers) rest)

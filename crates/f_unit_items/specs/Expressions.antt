@@ -1,5 +1,5 @@
 -- The names in expressions, references and types (ISO/IEC 1539-1:2018, 7.3.2, 9 and 10.1), each in front of a rest.
-use Rattle.std.specs.Prelude.{ℕ, List, ◌∷◌, Option, Some, None, Bool, true, false, is_some}
+use Rattle.std.specs.Prelude.{ℕ, List, ◌∷◌, Option, Some, None, Bool, true, false, is_some, []}
 use Rattle.jf_base.specs.declared.place.Place.{Place}
 use Rattle.f_tree.specs.declared.name.Name.{Name as TreeName}
 use Rattle.f_tree.specs.declared.expression.Expression.{Expression}
@@ -14,13 +14,17 @@ use Rattle.f_tree.specs.declared.expression.Argument.{Argument, fold-Argument}
 use Rattle.f_tree.specs.declared.expression.TypeSpec.{TypeSpec}
 use Rattle.f_tree.specs.declared.expression.KindSelector.{KindSelector}
 use Rattle.f_tree.specs.declared.expression.CharacterParameter.{CharacterParameter}
+use Rattle.f_items.specs.declared.item.DeclaredType.{DeclaredType}
+use Rattle.f_items.specs.declared.item.DeclaredType.TheVariants.{NotDerived, Derived as OfDerived}
 use Rattle.f_items.specs.declared.item.Need.TheVariants as need
 use Rattle.f_items.specs.declared.item.Item.TheVariants.{Selects}
+use Rattle.f_unit_items.specs.declared.expression.PartRole.{PartRole}
+use Rattle.f_unit_items.specs.declared.expression.PartRole.TheVariants.{Alone, Base, Selected}
 use Rattle.f_unit_items.specs.Fronts.{Front, name_of, refers, kind_name, inside, optional, each, each_given}
 
--- a part of a reference is told whether it is the first
+-- a part of a reference is told what it is in that
 abbrev pub PartFront : Type 0
-PartFront = Bool → Front
+PartFront = PartRole → Front
 
 abbrev pub expression_step : Expression-F Front Front Front Front Front Front PartFront Front Front → Front
 expression_step (open_.Number digits kind p) rest = kind_name kind p rest
@@ -34,15 +38,21 @@ expression_step (open_.Chain level sign first links) rest = first (each links re
 abbrev pub link_step : Link-F Front Front Front Front Front Front PartFront Front Front → Front
 link_step l rest = l.operand rest
 
--- the first part names a thing of the scope, and each other a component of what stands before it
-abbrev pub reference_step : Reference-F Front Front Front Front Front Front PartFront Front Front → Front
-reference_step r rest = r.first true (each_given false r.others rest)
+-- the role of the first part, where these stand behind it
+abbrev pub first_role : {A : Type 0} → List A → PartRole
+first_role [] = Alone
+first_role (p ∷ ps) = Base
 
--- a part's name: whether it is the first, and whether arguments or subscripts stand behind it
-abbrev pub part_name : Bool → TreeName → Bool → Front
-part_name true n false rest = refers n need.Value rest
-part_name true n true rest = refers n need.Applied rest
-part_name false n is_applied rest = Selects (name_of n) ∷ rest
+-- the first part names a thing of the scope, and each other a component of the part before it
+abbrev pub reference_step : Reference-F Front Front Front Front Front Front PartFront Front Front → Front
+reference_step r rest = r.first (first_role r.others) (each_given Selected r.others rest)
+
+-- a part's name: its role, and whether arguments or subscripts stand behind it
+abbrev pub part_name : PartRole → TreeName → Bool → Front
+part_name Alone n false rest = refers n need.Value rest
+part_name Alone n true rest = refers n need.Applied rest
+part_name Base n is_applied rest = refers n need.Object rest
+part_name Selected n is_applied rest = Selects (name_of n) ∷ rest
 
 abbrev pub optional_inside : Option (List Front) → Front
 optional_inside None rest = rest
@@ -53,7 +63,7 @@ optional_range None rest = rest
 optional_range (Some r) rest = inside r rest
 
 abbrev pub part_step : Part-F Front Front Front Front Front Front PartFront Front Front → PartFront
-part_step p is_first rest = part_name is_first p.name (is_some p.arguments) (optional_inside p.arguments (optional_range p.substring rest))
+part_step p role rest = part_name role p.name (is_some p.arguments) (optional_inside p.arguments (optional_range p.substring rest))
 
 abbrev pub range_step : Range-F Front Front Front Front Front Front PartFront Front Front → Front
 range_step r rest = optional r.lower (optional r.upper rest)
@@ -118,17 +128,17 @@ parameter = fold-CharacterParameter Front Front Front Front Front Front PartFron
 abbrev pub Nothing : Type 0
 Nothing = Unit {0}
 
--- where a type begins, and the name of a derived one
+-- where a type begins, and what a declaration with it says of a name's type
 pub record TypeFacts : Type 0 where
   pub place : Place
-  pub named : Option (List ℕ)
+  pub of_type : DeclaredType
 
 abbrev pub facts_step : TypeSpec-F Nothing Nothing Nothing TypeFacts Nothing Nothing Nothing Nothing Nothing → TypeFacts
-facts_step (open_.Integer p kind) = record { place = p; named = None }
-facts_step (open_.Logical p kind) = record { place = p; named = None }
-facts_step (open_.Character p parameters) = record { place = p; named = None }
-facts_step (open_.Derived p name) = record { place = p; named = Some name.bytes }
-facts_step (open_.Assumed p) = record { place = p; named = None }
+facts_step (open_.Integer p kind) = record { place = p; of_type = NotDerived }
+facts_step (open_.Logical p kind) = record { place = p; of_type = NotDerived }
+facts_step (open_.Character p parameters) = record { place = p; of_type = NotDerived }
+facts_step (open_.Derived p name) = record { place = p; of_type = OfDerived name.bytes }
+facts_step (open_.Assumed p) = record { place = p; of_type = NotDerived }
 
 abbrev pub type_facts : TypeSpec → TypeFacts
 type_facts = fold-TypeSpec Nothing Nothing Nothing TypeFacts Nothing Nothing Nothing Nothing Nothing (λ x. tt) (λ x. tt) (λ x. tt) facts_step (λ x. tt) (λ x. tt) (λ x. tt) (λ x. tt) (λ x. tt)
@@ -137,6 +147,6 @@ type_facts = fold-TypeSpec Nothing Nothing Nothing TypeFacts Nothing Nothing Not
 abbrev pub type_place : TypeSpec → Place
 type_place t = (type_facts t).place
 
--- the name of a derived type
-abbrev pub type_name : TypeSpec → Option (List ℕ)
-type_name t = (type_facts t).named
+-- what a declaration with a type says of a name's
+abbrev pub declared_type : TypeSpec → DeclaredType
+declared_type t = (type_facts t).of_type

@@ -7,6 +7,8 @@ use Rattle.f_tree.specs.declared.name.Name.{Name as TreeName}
 use Rattle.f_items.specs.declared.item.Name.{Name}
 use Rattle.f_items.specs.declared.item.Access.{Access}
 use Rattle.f_items.specs.declared.item.Class.{Class}
+use Rattle.f_items.specs.declared.item.DeclaredType.{DeclaredType}
+use Rattle.f_items.specs.declared.item.DeclaredType.TheVariants.{NotDerived}
 use Rattle.f_items.specs.declared.item.Share.{Share}
 use Rattle.f_items.specs.declared.item.Share.TheVariants.{Whole}
 use Rattle.f_items.specs.declared.item.Need.{Need}
@@ -26,10 +28,10 @@ name_of n = record { bytes = n.bytes; place = n.place }
 abbrev pub refers : TreeName → Need → Front
 refers n need rest = Refers (name_of n) need ∷ rest
 
-abbrev pub declared_as : TreeName → Class → Share → Option (List ℕ) → Option Access → Declared
+abbrev pub declared_as : TreeName → Class → Share → DeclaredType → Option Access → Declared
 declared_as n c s t a = record { name = name_of n; class = c; share = s; of_type = t; access = a }
 
-abbrev pub declares : TreeName → Class → Share → Option (List ℕ) → Option Access → Front
+abbrev pub declares : TreeName → Class → Share → DeclaredType → Option Access → Front
 declares n c s t a rest = Declares (declared_as n c s t a) ∷ rest
 
 -- the kind of a literal, where it is a name; a literal with its kind is one token
@@ -64,4 +66,4 @@ if_there f (Some x) rest = f x rest
 
 -- the name of a scope, declared wholly in the scope around it
 abbrev pub heads : TreeName → Class → Option Access → Front
-heads n c a rest = Heads (declared_as n c Whole None a) ∷ rest
+heads n c a rest = Heads (declared_as n c Whole NotDerived a) ∷ rest

@@ -27,6 +27,7 @@ use Rattle.f_tree.specs.declared.statement.RankCase.{RankCase}
 use Rattle.f_tree.specs.declared.statement.SelectCase.{SelectCase}
 use Rattle.f_tree.specs.declared.statement.SelectRank.{SelectRank}
 use Rattle.f_items.specs.declared.item.Class.TheVariants as class
+use Rattle.f_items.specs.declared.item.DeclaredType.TheVariants.{OfSelector}
 use Rattle.f_items.specs.declared.item.Need.TheVariants as need
 use Rattle.f_items.specs.declared.item.ScopeKind.TheVariants as kind
 use Rattle.f_items.specs.declared.item.Share.TheVariants.{Whole}
@@ -113,7 +114,7 @@ associate_name (Some renamed) n = renamed
 
 -- the selector is named outside the construct, and its associate name is declared inside (11.1.10.3)
 abbrev pub select_rank_step : SelectRank-F Front Front Front Front Front Front Front Front Front → Front
-select_rank_step c rest = refers c.selector need.Variable (Enter kind.SelectRank c.place ∷ declares (associate_name c.renamed c.selector) class.Data Whole None None (each c.ranks (Leave ∷ rest)))
+select_rank_step c rest = refers c.selector need.Variable (Enter kind.SelectRank c.place ∷ declares (associate_name c.renamed c.selector) class.Data Whole (OfSelector c.selector.bytes) None (each c.ranks (Leave ∷ rest)))
 
 abbrev pub rank_step : RankCase-F Front Front Front Front Front Front Front Front Front → Front
 rank_step c rest = rank_choice c.choice (each c.body rest)

@@ -23,6 +23,8 @@ use Rattle.f_tree.specs.declared.declaration.InterfaceBody.{InterfaceBody}
 use Rattle.f_tree.specs.declared.declaration.Specification.{Specification}
 use Rattle.f_items.specs.declared.item.Class.{Class}
 use Rattle.f_items.specs.declared.item.Class.TheVariants as class
+use Rattle.f_items.specs.declared.item.DeclaredType.{DeclaredType}
+use Rattle.f_items.specs.declared.item.DeclaredType.TheVariants.{NotDerived}
 use Rattle.f_items.specs.declared.item.ScopeKind.{ScopeKind}
 use Rattle.f_items.specs.declared.item.ScopeKind.TheVariants as kind
 use Rattle.f_items.specs.declared.item.Share.{Share}
@@ -31,7 +33,7 @@ use Rattle.f_items.specs.declared.item.Item.{Item}
 use Rattle.f_items.specs.declared.item.Item.TheVariants.{Enter, Leave, Untyped}
 use Rattle.f_scope.specs.BuiltIn.{before_program}
 use Rattle.f_unit_items.specs.Fronts.{Front, declares, heads, each, each_given, if_there}
-use Rattle.f_unit_items.specs.Expressions.{Nothing, type_spec, type_place, type_name}
+use Rattle.f_unit_items.specs.Expressions.{Nothing, type_spec, type_place, declared_type}
 use Rattle.f_unit_items.specs.Statements.{statement}
 use Rattle.f_unit_items.specs.Declarations.{bind_list, variables, derived_type, use_statement, import_statement, access_statement, procedure_pointers}
 
@@ -63,13 +65,13 @@ unfoldable pub result_share : List Prefix → Share
 result_share [] = Announced
 result_share (x ∷ xs) = if is_type x then Whole else result_share xs
 
-abbrev pub prefix_type : Prefix → Option (List ℕ)
-prefix_type (prefix_form.Recursive p) = None
-prefix_type (prefix_form.Type t) = type_name t
+abbrev pub prefix_type : Prefix → DeclaredType
+prefix_type (prefix_form.Recursive p) = NotDerived
+prefix_type (prefix_form.Type t) = declared_type t
 
--- the name of a result's derived type, where a prefix has it
-unfoldable pub result_type : List Prefix → Option (List ℕ)
-result_type [] = None
+-- a result's type, where a prefix has it
+unfoldable pub result_type : List Prefix → DeclaredType
+result_type [] = NotDerived
 result_type (x ∷ xs) = if is_type x then prefix_type x else result_type xs
 
 abbrev pub result_name : List Prefix → TreeName → Front
@@ -90,10 +92,10 @@ has_result (x ∷ xs) = if is_result x then true else has_result xs
 -- a procedure's name in its own scope: that of a function whose result has no other name is the result's (15.6.2.2)
 abbrev pub own_name : ProcedureKind → Bool → List Prefix → TreeName → Front
 own_name Function false ps n rest = result_name ps n rest
-own_name _ _ ps n rest = declares n class.Procedure Whole None None rest
+own_name _ _ ps n rest = declares n class.Procedure Whole NotDerived None rest
 
 abbrev pub dummy : TreeName → Front
-dummy n rest = declares n class.Data Announced None None rest
+dummy n rest = declares n class.Data Announced NotDerived None rest
 
 abbrev pub dummies : List TreeName → Front
 dummies ns rest = each (map dummy ns) rest
@@ -173,7 +175,7 @@ abbrev pub contained : List Procedure → Front
 contained ps rest = each (map contained_procedure ps) rest
 
 abbrev pub unit_name : TreeName → Front
-unit_name n rest = declares n class.UnitName Whole None None rest
+unit_name n rest = declares n class.UnitName Whole NotDerived None rest
 
 abbrev pub program : Program → Front
 program p rest = Enter kind.Program p.place ∷ unit_name p.name (specification p.specification (each (map statement p.body)

@@ -5,7 +5,7 @@ ghost use Rattle.f_unit_items.specs.Fronts.{if_there, each};
 ghost use Rattle.f_unit_items.specs.Declarations.{access_of, form_access, access_among, bind_list, dimensions, initial_value, entity, rename, only_name, is_only, use_list, imported, imported_names};
 
 use crate::action::put_if_there;
-use crate::expression::{put_expression, put_type, type_name};
+use crate::expression::{declared_type, put_expression, put_type};
 use crate::items::Items;
 use crate::put::{HasItems, put_each};
 use f_items::{Access, Class, Item, Share};
@@ -124,7 +124,7 @@ fn put_entity(
 {
     put_initial(out, &e.initial)?;
     put_dimensions(out, &e.dimensions)?;
-    let of_type = type_name(out.allocator(), declared)?;
+    let of_type = declared_type(out.allocator(), declared)?;
     out.declare(&e.name, Class::Data, Share::Typed, of_type, access)
 }
 

@@ -5,10 +5,10 @@ ghost use Rattle.f_unit_items.specs.Fronts.{each};
 ghost use Rattle.f_unit_items.specs.Declarations.{type_form_access, type_access, pointer_form_access, pointer_access, field, accessed, accessed_names, procedure_pointer};
 
 use crate::declaration::{access_of, put_bind, put_dimensions};
-use crate::expression::{put_type, type_name};
+use crate::expression::{declared_type, put_type};
 use crate::items::Items;
 use crate::put::{HasItems, put_each};
-use f_items::{Access, Class, Item, Need, ScopeKind, Share};
+use f_items::{Access, Class, DeclaredType, Item, Need, ScopeKind, Share};
 use f_tree::{
     AccessStatement, Component, DerivedType, Field, Name, PointerAttribute, ProcedurePointer,
     ProcedurePointers, TypeAttribute, TypeSpec,
@@ -85,7 +85,7 @@ fn put_field(out: &mut Items, declared: &TypeSpec, f: &Field) -> Result<(), Allo
     ensures { OnOk result (out.new ≡ field declared.now f.now out.old) }
 {
     put_dimensions(out, &f.dimensions)?;
-    let of_type = type_name(out.allocator(), declared)?;
+    let of_type = declared_type(out.allocator(), declared)?;
     out.declare(&f.name, Class::Component, Share::Whole, of_type, None)
 }
 
@@ -168,7 +168,7 @@ fn put_pointer(
         &pointer.name,
         Class::ProcedurePointer,
         Share::Whole,
-        None,
+        DeclaredType::NotDerived,
         access,
     )
 }

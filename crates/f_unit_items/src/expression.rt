@@ -1,17 +1,29 @@
 //! The names in expressions, references and types. What stands last is put first.
 
-ghost use Rattle.std.specs.Prelude.{◌≡◌, OnOk, IfOk, map, false};
+ghost use Rattle.std.specs.Prelude.{◌≡◌, OnOk, IfOk, map};
+ghost use Rattle.f_unit_items.specs.declared.expression.PartRole.TheVariants.{Selected};
 ghost use Rattle.f_unit_items.specs.Fronts.{if_there, each, each_given, inside};
-ghost use Rattle.f_unit_items.specs.Expressions.{expression, link, reference, part, range, argument, type_spec, kind_selector, parameter, type_place, type_name, part_name};
+ghost use Rattle.f_unit_items.specs.Expressions.{expression, link, reference, part, range, argument, type_spec, kind_selector, parameter, type_place, declared_type, part_name, first_role};
 
 use crate::items::Items;
-use f_items::{Item, Need};
+use f_items::{DeclaredType, Item, Need};
 use f_tree::{
     Argument, CharacterParameter, Expression, KindSelector, Link, Name, Part, Range, Reference,
     TypeSpec, copy_bytes,
 };
-use jf_base::{Boxed, List, Place};
+use jf_base::{Boxed, Place};
 use std::alloc::{AllocError, Global};
+
+/// What a part is in a reference.
+#[derive(Clone, Copy, PartialEq, Eq, Debug)]
+pub enum PartRole {
+    /// It is the only one.
+    Alone,
+    /// It is the first, and a component of it is selected.
+    Base,
+    /// It names a component of the part before it.
+    Selected,
+}
 
 /// Puts the names of an expression in front.
 #[cycle(names)]
@@ -141,56 +153,68 @@ pub fn put_reference(out: &mut Items, r: &Reference) -> Result<(), AllocError>
     ensures { OnOk result (out.new ≡ reference r.now out.old) }
 {
     put_selected(out, r.others.as_slice())?;
-    put_part(out, &r.first, true)?;
+    put_part(out, &r.first, first_role(r.others.as_slice()))?;
     Ok(())
+}
+
+/// The role of the first part, where these stand behind it.
+fn first_role(others: &[Part]) -> PartRole
+    ensures { result ≡ first_role (map part others.now) }
+{
+    match others {
+        [] => PartRole::Alone,
+        [_, ..] => PartRole::Base,
+    }
 }
 
 #[cycle(names)]
 fn put_selected(out: &mut Items, parts: &[Part]) -> Result<(), AllocError>
-    ensures { OnOk result (out.new ≡ each_given false (map part parts.now) out.old) }
+    ensures { OnOk result (out.new ≡ each_given Selected (map part parts.now) out.old) }
 {
     let mut left = parts.len();
     while left > 0 {
         left -= 1;
-        put_part(out, &parts[left], false)?;
+        put_part(out, &parts[left], PartRole::Selected)?;
     }
     Ok(())
 }
 
 fn put_part_name(
     out: &mut Items,
-    is_first: bool,
+    role: PartRole,
     name: &Name,
     is_applied: bool,
 ) -> Result<(), AllocError>
-    ensures { OnOk result (out.new ≡ part_name is_first name.now is_applied out.old) }
+    ensures { OnOk result (out.new ≡ part_name role name.now is_applied out.old) }
 {
-    if is_first {
-        if is_applied {
-            out.refer(name, Need::Applied)
-        } else {
-            out.refer(name, Need::Value)
+    match role {
+        PartRole::Alone => {
+            if is_applied {
+                out.refer(name, Need::Applied)
+            } else {
+                out.refer(name, Need::Value)
+            }
         }
-    } else {
-        out.select(name)
+        PartRole::Base => out.refer(name, Need::Object),
+        PartRole::Selected => out.select(name),
     }
 }
 
 #[cycle(names)]
-fn put_part(out: &mut Items, p: &Part, is_first: bool) -> Result<(), AllocError>
-    ensures { OnOk result (out.new ≡ part p.now is_first out.old) }
+fn put_part(out: &mut Items, p: &Part, role: PartRole) -> Result<(), AllocError>
+    ensures { OnOk result (out.new ≡ part p.now role out.old) }
 {
     put_substring(out, &p.substring)?;
     match &p.arguments {
         None => {
-            put_part_name(out, is_first, &p.name, false)?;
+            put_part_name(out, role, &p.name, false)?;
             Ok(())
         }
         Some(arguments) => {
             out.put(Item::Outside)?;
             put_arguments(out, arguments.as_slice())?;
             out.put(Item::Inside)?;
-            put_part_name(out, is_first, &p.name, true)?;
+            put_part_name(out, role, &p.name, true)?;
             Ok(())
         }
     }
@@ -348,12 +372,14 @@ pub fn type_place(t: &TypeSpec) -> Place
     }
 }
 
-/// The name of a derived type.
-pub fn type_name(alloc: Global, t: &TypeSpec) -> Result<Option<List<u8>>, AllocError>
-    ensures { IfOk result (λ name. name ≡ type_name t.now) }
+/// What a declaration with a type says of a name's.
+pub fn declared_type(alloc: Global, t: &TypeSpec) -> Result<DeclaredType, AllocError>
+    ensures { IfOk result (λ of_type. of_type ≡ declared_type t.now) }
 {
     match t {
-        TypeSpec::Derived { place: _, name } => Ok(Some(copy_bytes(alloc, &name.bytes)?)),
-        _ => Ok(None),
+        TypeSpec::Derived { place: _, name } => {
+            Ok(DeclaredType::Derived(copy_bytes(alloc, &name.bytes)?))
+        }
+        _ => Ok(DeclaredType::NotDerived),
     }
 }

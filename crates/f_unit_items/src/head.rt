@@ -5,10 +5,10 @@ ghost use Rattle.f_unit_items.specs.Fronts.{each, if_there};
 ghost use Rattle.f_unit_items.specs.Units.{prefix_place, place_before, head_place, is_type, prefix_type, result_share, result_type, result_name, suffix, is_result, has_result, own_name, dummy, dummies, host_name, head};
 
 use crate::declaration::put_bind;
-use crate::expression::{put_type, type_name, type_place};
+use crate::expression::{declared_type, put_type, type_place};
 use crate::items::Items;
 use crate::put::{HasItems, put_each};
-use f_items::{Class, ScopeKind, Share};
+use f_items::{Class, DeclaredType, ScopeKind, Share};
 use f_tree::{Head, Name, Prefix, ProcedureKind, Suffix};
 use jf_base::{List, Place};
 use std::alloc::{AllocError, Global};
@@ -60,12 +60,12 @@ fn is_type(prefix: &Prefix) -> bool
     }
 }
 
-fn prefix_type(alloc: Global, prefix: &Prefix) -> Result<Option<List<u8>>, AllocError>
-    ensures { IfOk result (λ name. name ≡ prefix_type prefix.now) }
+fn prefix_type(alloc: Global, prefix: &Prefix) -> Result<DeclaredType, AllocError>
+    ensures { IfOk result (λ of_type. of_type ≡ prefix_type prefix.now) }
 {
     match prefix {
-        Prefix::Recursive { place: _ } => Ok(None),
-        Prefix::Type(declared) => type_name(alloc, declared),
+        Prefix::Recursive { place: _ } => Ok(DeclaredType::NotDerived),
+        Prefix::Type(declared) => declared_type(alloc, declared),
     }
 }
 
@@ -84,10 +84,10 @@ fn result_share(prefixes: &[Prefix]) -> Share
     Share::Announced
 }
 
-/// The name of a result's derived type, where the head says it.
+/// A result's type, where the head says it.
 #[tactic(auto, unfolding(crate::specs::Units::result_type))]
-fn result_type(alloc: Global, prefixes: &[Prefix]) -> Result<Option<List<u8>>, AllocError>
-    ensures { IfOk result (λ name. name ≡ result_type prefixes.now) }
+fn result_type(alloc: Global, prefixes: &[Prefix]) -> Result<DeclaredType, AllocError>
+    ensures { IfOk result (λ of_type. of_type ≡ result_type prefixes.now) }
 {
     let mut rest = prefixes;
     'prefixes: while let Some((prefix, behind)) = rest.split_first() {
@@ -96,7 +96,7 @@ fn result_type(alloc: Global, prefixes: &[Prefix]) -> Result<Option<List<u8>>, A
         }
         rest = behind;
     }
-    Ok(None)
+    Ok(DeclaredType::NotDerived)
 }
 
 fn put_result(out: &mut Items, prefixes: &[Prefix], name: &Name) -> Result<(), AllocError>
@@ -161,14 +161,26 @@ fn put_own_name(
 {
     match kind {
         ProcedureKind::Function if !has_result => put_result(out, prefixes, name),
-        _ => out.declare(name, Class::Procedure, Share::Whole, None, None),
+        _ => out.declare(
+            name,
+            Class::Procedure,
+            Share::Whole,
+            DeclaredType::NotDerived,
+            None,
+        ),
     }
 }
 
 fn put_dummy(out: &mut Items, name: &Name) -> Result<(), AllocError>
     ensures { OnOk result (out.new ≡ dummy name.now out.old) }
 {
-    out.declare(name, Class::Data, Share::Announced, None, None)
+    out.declare(
+        name,
+        Class::Data,
+        Share::Announced,
+        DeclaredType::NotDerived,
+        None,
+    )
 }
 
 fn put_dummies(out: &mut Items, list: &[Name]) -> Result<(), AllocError>

@@ -4,10 +4,10 @@ ghost use Rattle.std.specs.Prelude.{◌≡◌, ◌∷◌, [], reverse, IfOk, OnO
 ghost use Rattle.f_unit_items.specs.Fronts.{name_of, refers, declares, heads, kind_name};
 ghost use Rattle.f_items.specs.declared.item.Item.TheVariants.{Enter, Selects, Uses, Takes, Imports, Accesses};
 
-use f_items::{Access, Class, Declared, Item, Need, ScopeKind, Share};
+use f_items::{Access, Class, Declared, DeclaredType, Item, Need, ScopeKind, Share};
 use f_lex::Kind;
 use f_tree::{Name, copy_bytes};
-use jf_base::{List, Place};
+use jf_base::Place;
 use std::alloc::{AllocError, Global};
 use std::marker::Model;
 
@@ -117,7 +117,7 @@ impl Items {
         name: &Name,
         class: Class,
         share: Share,
-        of_type: Option<List<u8>>,
+        of_type: DeclaredType,
         access: Option<Access>,
     ) -> Result<(), AllocError>
         ensures { OnOk result (self.new ≡ declares name.now class share of_type access self.old) }
@@ -146,7 +146,7 @@ impl Items {
             name,
             class,
             share: Share::Whole,
-            of_type: None,
+            of_type: DeclaredType::NotDerived,
             access,
         }))
     }

@@ -2,6 +2,7 @@
 
 ghost use Rattle.std.specs.Prelude.{◌≡◌, OnOk, map, None};
 ghost use Rattle.f_items.specs.declared.item.Class.TheVariants.{Data};
+ghost use Rattle.f_items.specs.declared.item.DeclaredType.TheVariants.{OfSelector};
 ghost use Rattle.f_items.specs.declared.item.Share.TheVariants.{Whole};
 ghost use Rattle.f_unit_items.specs.Fronts.{if_there, each, declares};
 ghost use Rattle.f_unit_items.specs.Statements.{statement, if_construct, do_construct, select_case, select_rank, else_if, else_block, case_block, rank_block, associate_name};
@@ -10,9 +11,10 @@ use crate::action::{put_case_choice, put_control, put_rank_choice};
 use crate::expression::put_expression;
 use crate::items::Items;
 use crate::put::HasItems;
-use f_items::{Class, Item, Need, ScopeKind, Share};
+use f_items::{Class, DeclaredType, Item, Need, ScopeKind, Share};
 use f_tree::{
-    Case, DoConstruct, Else, ElseIf, IfConstruct, Name, RankCase, SelectCase, SelectRank, Statement,
+    Case, DoConstruct, Else, ElseIf, IfConstruct, Name, RankCase, SelectCase, SelectRank,
+    Statement, copy_bytes,
 };
 use std::alloc::AllocError;
 
@@ -116,11 +118,12 @@ fn put_case(out: &mut Items, c: &Case) -> Result<(), AllocError>
 
 /// Puts the declaration of the name that a selector has inside in front.
 fn put_associate(out: &mut Items, renamed: &Option<Name>, selector: &Name) -> Result<(), AllocError>
-    ensures { OnOk result (out.new ≡ declares (associate_name renamed.now selector.now) Data Whole None None out.old) }
+    ensures { OnOk result (out.new ≡ declares (associate_name renamed.now selector.now) Data Whole (OfSelector selector.now.bytes) None out.old) }
 {
+    let of_type = DeclaredType::OfSelector(copy_bytes(out.allocator(), &selector.bytes)?);
     match renamed {
-        None => out.declare(selector, Class::Data, Share::Whole, None, None),
-        Some(renamed) => out.declare(renamed, Class::Data, Share::Whole, None, None),
+        None => out.declare(selector, Class::Data, Share::Whole, of_type, None),
+        Some(renamed) => out.declare(renamed, Class::Data, Share::Whole, of_type, None),
     }
 }
 

@@ -9,7 +9,7 @@ use crate::items::Items;
 use crate::put::{HasItems, put_each};
 use crate::specification::{implicit_none, put_specification};
 use crate::statement::put_statements;
-use f_items::{Class, Item, ScopeKind, Share};
+use f_items::{Class, DeclaredType, Item, ScopeKind, Share};
 use f_scope::before_program;
 use f_tree::{Module, Name, Procedure, Program, Unit};
 use jf_base::{List, Place};
@@ -65,7 +65,13 @@ fn put_contained(out: &mut Items, procedures: &Option<List<Procedure>>) -> Resul
 fn put_unit_name(out: &mut Items, name: &Name) -> Result<(), AllocError>
     ensures { OnOk result (out.new ≡ unit_name name.now out.old) }
 {
-    out.declare(name, Class::UnitName, Share::Whole, None, None)
+    out.declare(
+        name,
+        Class::UnitName,
+        Share::Whole,
+        DeclaredType::NotDerived,
+        None,
+    )
 }
 
 fn put_program(out: &mut Items, p: &Program) -> Result<(), AllocError>

@@ -10,5 +10,5 @@ mod statements;
 pub use associated::{Associated, associate, lists_of};
 pub use module_names::{entity_of, grant};
 pub use origins::{Origins, add, add_entry, add_some, origins_of};
-pub use places::{Places, places_in, use_places};
+pub use places::{Places, no_lists, places_in, put_at, use_places};
 pub use statements::build_table;

@@ -1,6 +1,6 @@
 //! Where the USE statements of each scope stand.
 
-ghost use Rattle.std.specs.Prelude.{◌≡◌, ◌++◌, ◌∷◌, [], OnOk, IfOk, length, map};
+ghost use Rattle.std.specs.Prelude.{◌≡◌, ◌++◌, ◌∷◌, [], OnOk, IfOk, length, map, replicate};
 ghost use Rattle.f_scope.specs.Rows.{AreHosts, seen};
 ghost use Rattle.f_use.specs.Places.{list_at, put_at, put_item, put_items, AreUsePlaces};
 
@@ -60,12 +60,23 @@ pub fn places_in(lists: &[Places], scope: usize) -> &[usize]
     }
 }
 
-/// Puts a place into the list of a scope.
-fn put_at(lists: &mut Vec<Places>, scope: usize, place: usize) -> Result<(), AllocError>
-    ensures { OnOk result (lists.new.items ≡ put_at lists.old.items scope place) }
+/// So many empty lists.
+pub fn no_lists(alloc: Global, count: usize) -> Result<Vec<Places>, AllocError>
+    ensures { IfOk result (λ lists. lists.items ≡ replicate count []) }
 {
-    if scope < lists.len() {
-        lists[scope].push(place)?;
+    let mut lists = Vec::new(alloc);
+    'numbers: while lists.len() < count {
+        lists.push(Places::new(alloc))?;
+    }
+    Ok(lists)
+}
+
+/// Puts a place into the list with a number, if there is one.
+pub fn put_at(lists: &mut Vec<Places>, at: usize, place: usize) -> Result<(), AllocError>
+    ensures { OnOk result (lists.new.items ≡ put_at lists.old.items at place) }
+{
+    if at < lists.len() {
+        lists[at].push(place)?;
     }
     Ok(())
 }
@@ -115,10 +126,7 @@ pub fn use_places(
     requires { AreHosts scopes.now }
     ensures { IfOk result (λ lists. AreUsePlaces (map (seen scopes.now) items.now) lists.items (length scopes.now)) }
 {
-    let mut lists = Vec::new(alloc);
-    'scopes: while lists.len() < scopes.len() {
-        lists.push(Places::new(alloc))?;
-    }
+    let mut lists = no_lists(alloc, scopes.len())?;
     put_all(&mut lists, items)?;
     Ok(lists)
 }

@@ -10,7 +10,9 @@ use Rattle.c_token.specs.declared.token.CSpanned.{CSpanned}
 use Rattle.source_tokens.specs.Sources.{Files, is_fortran_name, Fortran, C, Expands}
 use Rattle.first_form.specs.declared.program.FirstProgram.{FirstProgram}
 use Rattle.first_form.specs.Readings.{AreTexts}
+use Rattle.c_read.specs.Reading.{file_of}
 use Rattle.first_files.proofs.FormTexts.{form_texts}
+use Rattle.first_c_files.proofs.FormFiles.{c_form_files}
 use Rattle.fcc_core.specs.Sources.{is_c_name, misplaced, IsProgram}
 
 -- ---- names
@@ -64,15 +66,22 @@ pub of_the_form : (files : Files) (name other fortran c : List ℕ) (ts : List S
 of_the_form files name other fortran c ts us program placed given lexes given' expands texts =
     let names = names_are name other placed in
     let text = form_texts 0 0 fortran program.label program.calls ts texts.fortran_text lexes in
+    let unit = c_form_files files 1 (length ts) (expands.0 + 0) c texts.fortran_text.name program.label program.puts us texts.fortran_text.is_label texts.c_text (expands.1 0) in
     let before : 0 + length ts ≡ length ts = omega arith in
     let E : ℕ → Type 0 = λ n. Expands files 1 n c us in
     record {
       fortran = record { text = fortran; tokens = Fortran ts text.statements };
-      c = record { text = c; tokens = C us };
+      c = record { text = c; tokens = C us (file_of us unit.externals) };
       placed = placed;
       sources = (
         record { is_listed = given; has_tokens = (names.0, lexes, record { forms = text.forms; is_file = text.file }) },
-        (record { is_listed = given'; has_tokens = (c_not_fortran other names.1, subst E (sym before) expands) }, tt),
+        (
+          record {
+            is_listed = given';
+            has_tokens = (c_not_fortran other names.1, subst E (sym before) expands, record { is_file = record { fits = unit.fits; spelled = unit.spelled }; tables = refl });
+          },
+          tt,
+        ),
       );
       are_texts = texts;
     }

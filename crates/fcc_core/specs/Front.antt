@@ -40,7 +40,7 @@ pub record IsUnbuilt (files : Files) (names : List (List ℕ)) (place : Place) (
   pub tag_is : tag.0 ≡ 1001
   pub not_built : IsNotBuilt files names place.file
 
--- a source is refused: at the first broken rule of source form, statements or preprocessing, or else where it isn't built
+-- a source is refused: at the first broken rule of source form, of statements, of preprocessing or of C's grammar, or else where it isn't built
 pub record IsRefused (names : List (List ℕ)) (place : Place) (tag : Tag) (before after : LibraryAt) : Type 0 where
   pub untroubled : IsUntroubled before after
   pub is_tag : IsTag tag.0

@@ -17,7 +17,7 @@ misplaced (fortran ∷ []) = Some 0
 misplaced (fortran ∷ c ∷ others) =
     if is_fortran_name fortran then (if is_c_name c then (if nat_eq (length others) 0 then None else Some 2) else Some 1) else Some 0
 
--- the files of these names are the program's: each has its tokens, those in Fortran are files of its grammar, and their texts are in the program's form
+-- the files of these names are the program's: each has its tokens and is a file of its language's grammar, and their texts are in the program's form
 pub record IsProgram (files : Files) (names : List (List ℕ)) (program : FirstProgram) : Type 0 where
   pub fortran : Source
   pub c : Source
@@ -25,7 +25,7 @@ pub record IsProgram (files : Files) (names : List (List ℕ)) (program : FirstP
   pub sources : AreSources files 0 0 names (fortran ∷ c ∷ [])
   pub are_texts : AreTexts fortran.text c.text program
 
--- the file of this number is the first that isn't in the form that is built so far; all files have their tokens, and those in Fortran their statements
+-- the file of this number is the first that isn't in the form that is built so far; all files have their tokens, with their statements or external declarations
 pub data IsNotBuilt (files : Files) (names : List (List ℕ)) : ℕ → Type 0 where
   Misplaced : (k : ℕ) (sources : List Source) → misplaced names ≡ Some k → AreSources files 0 0 names sources → IsNotBuilt files names k
   InFortran : (fortran c : Source) → misplaced names ≡ None → AreSources files 0 0 names (fortran ∷ c ∷ []) → IsNoFortranText fortran.text → IsNotBuilt files names 0

@@ -83,8 +83,8 @@ fn read_program(alloc: Global, fortran: &[u8], c: &[u8]) -> Result<FirstProgram,
 }
 
 /// Reads the files of these names, in order, and the program that they make. The answer is the program, or the first fault: a file that the library
-/// doesn't give, the first broken rule of Fortran's source form (`L01` to `L08`), of its statements (`S01` to `S03`) or of C's preprocessor (`P01` to
-/// `P10`), and else `X01` at the first file that isn't in the form that is built so far.
+/// doesn't give, the first broken rule of Fortran's source form (`L01` to `L08`), of its statements (`S01` to `S03`), of C's preprocessor (`P01` to `P10`)
+/// or of its grammar (`G01` and `G02`), and else `X01` at the first file that isn't in the form that is built so far.
 pub fn front<L: Library>(
     alloc: Global,
     names: &[Text],

@@ -1,5 +1,5 @@
 -- One file.
-use Rattle.std.proofs.Common.{◌≡◌, ℕ, ◌+◌, ◌≤◌, List, map, Option, Some, None, IsSome, IfSome, true, false, Result, Ok, Err, refl, sym, ap, ◌∙◌, subst, inl, inr, lit≤}
+use Rattle.std.proofs.Common.{◌≡◌, ℕ, ◌+◌, ◌≤◌, List, map, length, Option, Some, None, IsSome, IfSome, true, false, Result, Ok, Err, refl, sym, ap, ◌∙◌, subst, inl, inr, lit≤}
 use Rattle.std.proofs.Math.Dec.{leb}
 use Rattle.std.specs.Prelude.{T, ◌/◌, ◌%◌, ◌-◌, slice_index}
 use Rattle.jf_base.specs.Tags.{IsTag, group_sizes}
@@ -29,14 +29,19 @@ use Rattle.c_token.specs.declared.token.CSpanned.{CSpanned}
 use Rattle.c_pre.specs.declared.file.PreFault.{PreFault}
 use Rattle.c_pre.specs.declared.file.PreFault.TheVariants as pre
 use Rattle.c_pre.specs.Files.{FaultCounts, FaultStrays, IsOfRule, Tells}
+use Rattle.c_tree.specs.declared.unit.CUnit.{CUnit}
+use Rattle.c_read.specs.Reading.{read_file as read_unit}
+use Rattle.c_read.specs.Views.{Answers as UnitAnswers, view_unit}
+use Rattle.c_read.proofs.Whole.{file_broken as unit_broken}
 use Rattle.source_tokens.specs.declared.source.SourceFile.{SourceFile}
 use Rattle.source_tokens.specs.declared.source.SourceFault.{SourceFault}
 use Rattle.source_tokens.specs.declared.source.SourceFault.TheVariants as fault
 use Rattle.source_tokens.specs.Outside.{LibraryAt, IsUntroubled}
-use Rattle.source_tokens.specs.Sources.{is_fortran_name, Source, count, AreStatements, BreaksFortran, IsSource}
-use Rattle.source_tokens.specs.Reading.{source_fault, Told, HasFailed, IsText, IsParsed, IsFortran, IsC, IsRead}
+use Rattle.source_tokens.specs.Sources.{is_fortran_name, Source, Expands, count, AreStatements, AreExternals, BreaksFortran, IsSource}
+use Rattle.source_tokens.specs.Reading.{source_fault, preprocessing_fault, Told, HasFailed, IsText, IsParsed, IsFortran, AreRecognized, IsC, IsRead}
 use Rattle.source_tokens.proofs.Counting.{lexed_within}
 use Rattle.source_tokens.proofs.Statements.{of_statements, broken_tag}
+use Rattle.source_tokens.proofs.Externals.{of_unit, unit_broken_tag}
 
 -- ---- tags
 
@@ -79,6 +84,18 @@ module _ (text : List ℕ) (ts : List Spanned) where
   pub unparsed : (r : Refusal) → Answers views (Err r) (read_file ts) → IsParsed text ts (Err (source_fault r))
   unparsed refusal.Memory e = tt
   unparsed (refusal.At place tag) e = file_broken ts place tag e
+
+-- ---- C's grammar
+
+module _ (text : List ℕ) (ts : List CSpanned) where
+  -- external declarations were read
+  pub recognized : (u : CUnit) → UnitAnswers view_unit (Ok u) (read_unit ts) → AreExternals ts (view_unit u)
+  recognized u e = of_unit ts (view_unit u) e
+
+  -- none were
+  pub unrecognized : (r : Refusal) → UnitAnswers view_unit (Err r) (read_unit ts) → AreRecognized text ts (Err (source_fault r))
+  unrecognized refusal.Memory e = tt
+  unrecognized (refusal.At place tag) e = unit_broken ts place tag e
 
 module _ (file before : ℕ) (text : List ℕ) where
   -- behind the tokens
@@ -135,9 +152,9 @@ module _ (name : List ℕ) (file before : ℕ) (a b : LibraryAt) where
 
     module _ (c : LibraryAt) (same : b.listing ≡ a.listing) where
       pub of_c : (r : Result SourceFile SourceFault) → is_fortran_name name ≡ false → IsC file before text r b c → IsRead name file before r a c
-      of_c (Ok s) is (calm', (ts, made, fits, expands)) =
+      of_c (Ok s) is (calm', (ts, u, made, fits, are, expands)) =
           let P : Source → Type 0 = λ x. IsUntroubled a c × (before + count x.tokens ≤ 262144) × Told a (λ files. IsSource files name file before x) in
-          subst P (sym made) (untroubled_then a b c same calm calm', fits, λ files told. record { is_listed = given files told; has_tokens = (is, expands files (same ∙ told)) })
+          subst P (sym made) (untroubled_then a b c same calm calm', fits, λ files told. record { is_listed = given files told; has_tokens = (is, expands files (same ∙ told), are) })
       of_c (Err fault.Memory) is h = tt
       of_c (Err (fault.Library asked)) is (failed, asks) = (
         failed_then asked a b c same calm failed,
@@ -156,7 +173,7 @@ some_then None h some = absurd (cc)
 some_then (Some x) h some = h
 
 module _ (file before : ℕ) (text : List ℕ) (a b : LibraryAt) (r : Result (Vec CSpanned Global) PreFault) where
-  pub of_missing : (name : List ℕ) → r ≡ Err (pre.Library name) → FaultCounts r a.faults b.faults → Told a (λ files. FaultStrays r files a.strays b.strays) → Told a (λ files. Tells r files file before text)
+  of_missing : (name : List ℕ) → r ≡ Err (pre.Library name) → FaultCounts r a.faults b.faults → Told a (λ files. FaultStrays r files a.strays b.strays) → Told a (λ files. Tells r files file before text)
       → IsC file before text (Err (fault.Library name)) a b
   of_missing name is counts strays tells =
       let F : Result (Vec CSpanned Global) PreFault → Type 0 = λ r. FaultCounts r a.faults b.faults in (
@@ -170,7 +187,7 @@ module _ (file before : ℕ) (text : List ℕ) (a b : LibraryAt) (r : Result (Ve
             (w.0 + 0, w.1 0 refl)),
       )
 
-  pub of_broken : (place : Place) (tag : Tag) → r ≡ Err (pre.At place tag) → FaultCounts r a.faults b.faults → Told a (λ files. FaultStrays r files a.strays b.strays) → Told a (λ files. Tells r files file before text) → IsOfRule r
+  of_broken : (place : Place) (tag : Tag) → r ≡ Err (pre.At place tag) → FaultCounts r a.faults b.faults → Told a (λ files. FaultStrays r files a.strays b.strays) → Told a (λ files. Tells r files file before text) → IsOfRule r
       → IsC file before text (Err (fault.Source place tag)) a b
   of_broken place tag is counts strays tells rule =
       let F : Result (Vec CSpanned Global) PreFault → Type 0 = λ r. FaultCounts r a.faults b.faults in
@@ -181,5 +198,32 @@ module _ (file before : ℕ) (text : List ℕ) (a b : LibraryAt) (r : Result (Ve
           strays = λ files told. (let S : Result (Vec CSpanned Global) PreFault → Type 0 = λ r. FaultStrays r files a.strays b.strays in subst S is (strays files told));
         },
         (let N : ℕ → Type 0 = IsTag in subst N (sym (ap (λ t. t.0) w.1)) (c_rule_tag w.0)),
-        λ files told. (let T : Result (Vec CSpanned Global) PreFault → Type 0 = λ r. Tells r files file before text in subst T is (tells files told)),
+        λ files told. (let T : Result (Vec CSpanned Global) PreFault → Type 0 = λ r. Tells r files file before text in inl (subst T is (tells files told))),
       )
+
+  -- without tokens
+  pub of_unexpanded : (f : PreFault) → r ≡ Err f → FaultCounts r a.faults b.faults → Told a (λ files. FaultStrays r files a.strays b.strays) → Told a (λ files. Tells r files file before text) → IsOfRule r
+      → IsC file before text (Err (preprocessing_fault f)) a b
+  of_unexpanded pre.Memory is counts strays tells rule = tt
+  of_unexpanded (pre.Library name) is counts strays tells rule = of_missing name is counts strays tells
+  of_unexpanded (pre.At place tag) is counts strays tells rule = of_broken place tag is counts strays tells rule
+
+  -- behind the tokens
+  pub of_recognized : (v : Vec CSpanned Global) (q : Result SourceFile SourceFault) → r ≡ Ok v → FaultCounts r a.faults b.faults → Told a (λ files. FaultStrays r files a.strays b.strays) → Told a (λ files. Tells r files file before text)
+      → before + length v.items ≤ 262144 → AreRecognized text v.items q → IsC file before text q a b
+  of_recognized v q is counts strays tells room h = by q h
+    where
+      calm : IsUntroubled a b
+      calm = record {
+        faults = (let F : Result (Vec CSpanned Global) PreFault → Type 0 = λ r. FaultCounts r a.faults b.faults in subst F is counts);
+        strays = λ files told. (let S : Result (Vec CSpanned Global) PreFault → Type 0 = λ r. FaultStrays r files a.strays b.strays in subst S is (strays files told));
+      }
+
+      expands : Told a (λ files. Expands files file before text v.items)
+      expands files told = let T : Result (Vec CSpanned Global) PreFault → Type 0 = λ r. Tells r files file before text in subst T is (tells files told)
+
+      by : (q : Result SourceFile SourceFault) → AreRecognized text v.items q → IsC file before text q a b
+      by (Ok s) (u, same, are) = (calm, (v.items, u, same, room, are, expands))
+      by (Err fault.Memory) p = tt
+      by (Err (fault.Library asked)) p = absurd p
+      by (Err (fault.Source place tag)) p = (calm, unit_broken_tag v.items place tag p, λ files told. inr (record { tokens = v.items; expands = expands files told; broken = p }))

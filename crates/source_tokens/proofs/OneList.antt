@@ -10,8 +10,10 @@ use Rattle.f_lex.specs.Lexing.{Lexes}
 use Rattle.f_lex.proofs.WholeLaws as lexis
 use Rattle.f_lex.specs.declared.token.Spanned.{Spanned}
 use Rattle.f_statement_grammar.specs.Statements.{Statement}
-use Rattle.source_tokens.specs.Sources.{Files, is_fortran_name, Tokens, Fortran, C, Source, count, Expands, AreStatements, HasTokens, IsSource, AreSources, BreaksFortran, BreaksPreprocessing, IsBroken, Reaches}
+use Rattle.source_tokens.specs.Sources.{Files, is_fortran_name, Tokens, Fortran, C, Source, count, Expands, AreStatements, AreExternals, HasTokens, IsSource, AreSources, BreaksFortran, BreaksPreprocessing, BreaksC, IsBroken, Reaches}
 use Rattle.source_tokens.proofs.Statements.{one_statements, nowhere_broken}
+use Rattle.source_tokens.proofs.Externals.{one_unit, unit_nowhere_broken}
+use Rattle.c_read.specs.Reading.{File}
 
 -- as many files given as both readings asked for
 module _ (files : Files) (file before : ℕ) (text : List ℕ) where
@@ -39,9 +41,13 @@ module _ (files : Files) (name : List ℕ) (file before : ℕ) (text : List ℕ)
       let P : List Spanned → Type 0 = λ l. AreStatements l ss in
       let statements : ss ≡ qs = one_statements us ss qs (subst P same p.2) q.2 in
       λ i. Fortran (same i) (statements i)
-  one_tokens (Fortran ts ss) (C us) p q = let e : true ≡ false = sym p.0 ∙ q.0 in absurd (cc)
-  one_tokens (C ts) (Fortran us qs) p q = let e : true ≡ false = sym q.0 ∙ p.0 in absurd (cc)
-  one_tokens (C ts) (C us) p q = ap C (one_expansion files file before text ts us p.1 q.1)
+  one_tokens (Fortran ts ss) (C us v) p q = let e : true ≡ false = sym p.0 ∙ q.0 in absurd (cc)
+  one_tokens (C ts u) (Fortran us qs) p q = let e : true ≡ false = sym q.0 ∙ p.0 in absurd (cc)
+  one_tokens (C ts u) (C us v) p q =
+      let same : ts ≡ us = one_expansion files file before text ts us p.1 q.1 in
+      let P : List CSpanned → Type 0 = λ l. AreExternals l u in
+      let units : u ≡ v = one_unit us u v (subst P same p.2) q.2 in
+      λ i. C (same i) (units i)
 
 module _ (files : Files) where
   same_text : (name : List ℕ) (text other : List ℕ) → listed files name ≡ Some text → listed files name ≡ Some other → text ≡ other
@@ -69,7 +75,7 @@ module _ (files : Files) where
 
   module _ (place : Place) (tag : Tag) (name : List ℕ) (file before : ℕ) (text : List ℕ) where
     abbrev pub Broken : Type 0
-    Broken = ((is_fortran_name name ≡ true) × BreaksFortran file before text place tag) ⊎ ((is_fortran_name name ≡ false) × BreaksPreprocessing files file before text place tag)
+    Broken = ((is_fortran_name name ≡ true) × BreaksFortran file before text place tag) ⊎ ((is_fortran_name name ≡ false) × BreaksC files file before text place tag)
 
     fortran_beside : (ts : List Spanned) (ss : List Statement) → Lexes file before text ts → AreStatements ts ss → BreaksFortran file before text place tag → ⊥
     fortran_beside ts ss lexes are (inl broken) = lexis.not_both file before text ts broken.fault lexes broken.breaks
@@ -78,11 +84,18 @@ module _ (files : Files) where
         let P : List Spanned → Type 0 = λ l. AreStatements l ss in
         nowhere_broken broken.tokens ss (subst P same are) place tag broken.broken
 
+    c_beside : (ts : List CSpanned) (u : File) → Expands files file before text ts → AreExternals ts u → BreaksC files file before text place tag → ⊥
+    c_beside ts u expands are (inl broken) = none_beside files file before text ts place tag expands broken
+    c_beside ts u expands are (inr broken) =
+        let same : ts ≡ broken.tokens = one_expansion files file before text ts broken.tokens expands broken.expands in
+        let P : List CSpanned → Type 0 = λ l. AreExternals l u in
+        unit_nowhere_broken broken.tokens u (subst P same are) place tag broken.broken
+
     beside : (ts : Tokens) → HasTokens files name file before text ts → Broken → ⊥
     beside (Fortran ts ss) (is, lexes, are) (inl (_, broken)) = fortran_beside ts ss lexes are broken
     beside (Fortran ts ss) (is, lexes, are) (inr (not, _)) = let e : true ≡ false = sym is ∙ not in absurd (cc)
-    beside (C ts) (is, expands) (inl (not, _)) = let e : true ≡ false = sym not ∙ is in absurd (cc)
-    beside (C ts) (is, expands) (inr (_, broken)) = none_beside files file before text ts place tag expands broken
+    beside (C ts u) (is, expands, are) (inl (not, _)) = let e : true ≡ false = sym not ∙ is in absurd (cc)
+    beside (C ts u) (is, expands, are) (inr (_, broken)) = c_beside ts u expands are broken
 
   not_both : (place : Place) (tag : Tag) (name : List ℕ) (file before : ℕ) (s : Source) → IsSource files name file before s → IsBroken files place tag name file before → ⊥
   not_both place tag name file before s source b =

@@ -12,9 +12,15 @@ use Rattle.f_file_read.specs.BrokenAt.{BrokenAt}
 use Rattle.jf_base.specs.declared.place.Refusal.{Refusal}
 use Rattle.jf_base.specs.declared.place.Refusal.TheVariants as refusal
 use Rattle.c_directives.specs.Reads.{Asks}
+use Rattle.c_pre.specs.declared.file.PreFault.{PreFault}
+use Rattle.c_pre.specs.declared.file.PreFault.TheVariants as pre
 use Rattle.c_pre.specs.Files.{expanded_at}
+use Rattle.c_token.specs.declared.token.CSpanned.{CSpanned}
+use Rattle.c_read.specs.Reading.{File}
+use Rattle.c_read.specs.Views.{view_unit}
+use Rattle.c_read.specs.BrokenAt.{BrokenAt as IsBrokenUnit}
 use Rattle.source_tokens.specs.Outside.{LibraryAt, IsUntroubled}
-use Rattle.source_tokens.specs.Sources.{Files, Tokens, Fortran, C, Source, count, Expands, AreStatements, IsSource, AreSources, BreaksFortran, BreaksPreprocessing, IsBroken, IsDue, Reaches}
+use Rattle.source_tokens.specs.Sources.{Files, Tokens, Fortran, C, Source, count, Expands, AreStatements, AreExternals, IsSource, AreSources, BreaksFortran, BreaksC, IsBroken, IsDue, Reaches}
 use Rattle.source_tokens.specs.declared.source.SourceFile.{SourceFile}
 use Rattle.source_tokens.specs.declared.source.SourceTokens.{SourceTokens}
 use Rattle.source_tokens.specs.declared.source.SourceTokens.TheVariants as tokens
@@ -32,10 +38,10 @@ pub record HasFailed (asked : List ℕ) (before after : LibraryAt) : Type 0 wher
 
 -- ---- one file
 
--- a file's tokens, and its statements without their places
+-- a file's tokens, and its statements without their places or its external declarations
 abbrev pub seen_tokens : SourceTokens → Tokens
 seen_tokens (tokens.Fortran ts ss) = Fortran ts (map view_statement ss)
-seen_tokens (tokens.C ts) = C ts
+seen_tokens (tokens.C ts u) = C ts (view_unit u)
 
 abbrev pub seen : SourceFile → Source
 seen s = record { text = s.text; tokens = seen_tokens s.tokens }
@@ -44,6 +50,12 @@ seen s = record { text = s.text; tokens = seen_tokens s.tokens }
 abbrev pub source_fault : Refusal → SourceFault
 source_fault refusal.Memory = fault.Memory
 source_fault (refusal.At place tag) = fault.Source place tag
+
+-- the same fault of preprocessing
+abbrev pub preprocessing_fault : PreFault → SourceFault
+preprocessing_fault pre.Memory = fault.Memory
+preprocessing_fault (pre.Library name) = fault.Library name
+preprocessing_fault (pre.At place tag) = fault.Source place tag
 
 -- the fault tells this name, or memory was wanting
 abbrev pub IsNamed : List ℕ → SourceFault → Type 0
@@ -72,12 +84,19 @@ IsFortran file before text (Err fault.Memory) = Unit {0}
 IsFortran file before text (Err (fault.Library asked)) = ⊥
 IsFortran file before text (Err (fault.Source place tag)) = BreaksFortran file before text place tag
 
--- a C text: its tokens, the first broken rule, or a header that the library didn't give
+-- the tokens of a C text: its external declarations, or the first rule of the grammar that is broken
+abbrev pub AreRecognized : List ℕ → List CSpanned → Result SourceFile SourceFault → Type 0
+AreRecognized text ts (Ok s) = (u : File) × (seen s ≡ record { text = text; tokens = C ts u }) × AreExternals ts u
+AreRecognized text ts (Err fault.Memory) = Unit {0}
+AreRecognized text ts (Err (fault.Library asked)) = ⊥
+AreRecognized text ts (Err (fault.Source place tag)) = IsBrokenUnit ts place tag
+
+-- a C text: its tokens and external declarations, the first broken rule, or a header that the library didn't give
 abbrev pub IsC : ℕ → ℕ → List ℕ → Result SourceFile SourceFault → LibraryAt → LibraryAt → Type 0
-IsC file before text (Ok s) old new = IsUntroubled old new × ((ts : _) × (seen s ≡ record { text = text; tokens = C ts }) × (before + length ts ≤ 262144) × Told old (λ files. Expands files file before text ts))
+IsC file before text (Ok s) old new = IsUntroubled old new × ((ts : _) × (u : _) × (seen s ≡ record { text = text; tokens = C ts u }) × (before + length ts ≤ 262144) × AreExternals ts u × Told old (λ files. Expands files file before text ts))
 IsC file before text (Err fault.Memory) old new = Unit {0}
 IsC file before text (Err (fault.Library asked)) old new = HasFailed asked old new × Told old (λ files. (given : ℕ) × (expanded_at files file before text given ≡ Err (Asks asked)))
-IsC file before text (Err (fault.Source place tag)) old new = IsUntroubled old new × IsTag tag.0 × Told old (λ files. BreaksPreprocessing files file before text place tag)
+IsC file before text (Err (fault.Source place tag)) old new = IsUntroubled old new × IsTag tag.0 × Told old (λ files. BreaksC files file before text place tag)
 
 -- the file of this name and number, where the files before have so many tokens
 abbrev pub IsRead : List ℕ → ℕ → ℕ → Result SourceFile SourceFault → LibraryAt → LibraryAt → Type 0

@@ -1,5 +1,5 @@
--- The files of a program with their tokens (ISO/IEC 1539-1:2018, 6.2 and 6.3.2, and ISO/IEC 9899:2011, 5.1.1.2 and 6.10), and the statements of those in
--- Fortran (ISO/IEC 1539-1:2018, 5.1 to 5.3).
+-- The files of a program with their tokens (ISO/IEC 1539-1:2018, 6.2 and 6.3.2, and ISO/IEC 9899:2011, 5.1.1.2 and 6.10), the statements of those in
+-- Fortran (ISO/IEC 1539-1:2018, 5.1 to 5.3) and the external declarations of those in C (ISO/IEC 9899:2011, 6.9).
 use Rattle.std.specs.Prelude.{◌≡◌, ◌⊎◌, ℕ, ◌+◌, List, [], ◌∷◌, codes, nat_eq, Bool, true, false, length, Some, Ok, Err}
 use Rattle.std.specs.List.{ends_with}
 use Rattle.jf_base.specs.declared.place.Place.{Place}
@@ -17,6 +17,8 @@ use Rattle.f_file_read.specs.BrokenAt.{BrokenAt}
 use Rattle.c_token.specs.declared.token.CSpanned.{CSpanned}
 use Rattle.c_directives.specs.Reads.{Asks}
 use Rattle.c_pre.specs.Files.{expanded_at, IsAt}
+use Rattle.c_read.specs.Reading.{File, file_of}
+use Rattle.c_read.specs.BrokenAt.{IsFileOf, BrokenAt as IsBrokenUnit}
 
 -- the names of a library with their bytes
 abbrev pub Files : Type 0
@@ -25,10 +27,10 @@ Files = List (List ℕ × List ℕ)
 abbrev pub is_fortran_name : List ℕ → Bool
 is_fortran_name name = ends_with nat_eq name (codes ".f90")
 
--- the tokens of a file, and the statements of one in Fortran
+-- the tokens of a file, and the statements of one in Fortran or what one in C is read as
 pub data Tokens : Type 0 where
   Fortran : (tokens : List Spanned) (statements : List Statement) → Tokens
-  C : (tokens : List CSpanned) → Tokens
+  C : (tokens : List CSpanned) (unit : File) → Tokens
 
 -- a file's bytes and its tokens
 pub record Source : Type 0 where
@@ -38,7 +40,7 @@ pub record Source : Type 0 where
 -- how many tokens a file has, where the end of a Fortran statement is one
 abbrev pub count : Tokens → ℕ
 count (Fortran ts ss) = length ts
-count (C ts) = length ts
+count (C ts u) = length ts
 
 -- the text of a C file gives these tokens, with its headers from the library
 abbrev pub Expands : Files → ℕ → ℕ → List ℕ → List CSpanned → Type 0
@@ -49,10 +51,15 @@ pub record AreStatements (ts : List Spanned) (ss : List Statement) : Type 0 wher
   pub forms : HaveForms (cuts (tokens_of ts)) ss
   pub is_file : IsFile ss
 
+-- the tokens of a C file are these external declarations, and its names, literals and places are those of the words of its tokens
+pub record AreExternals (ts : List CSpanned) (unit : File) : Type 0 where
+  pub is_file : IsFileOf ts unit
+  pub tables : unit ≡ file_of ts unit.externals
+
 -- the text of the file of this name gives these tokens, by its language's lexis and then its grammar
 abbrev pub HasTokens : Files → List ℕ → ℕ → ℕ → List ℕ → Tokens → Type 0
 HasTokens files name file before text (Fortran ts ss) = (is_fortran_name name ≡ true) × Lexes file before text ts × AreStatements ts ss
-HasTokens files name file before text (C ts) = (is_fortran_name name ≡ false) × Expands files file before text ts
+HasTokens files name file before text (C ts u) = (is_fortran_name name ≡ false) × Expands files file before text ts × AreExternals ts u
 
 -- the file of this name and number is listed, and its text gives its tokens, where the files before have so many
 pub record IsSource (files : Files) (name : List ℕ) (file before : ℕ) (s : Source) : Type 0 where
@@ -83,15 +90,25 @@ pub record BreaksStatements (file before : ℕ) (text : List ℕ) (place : Place
 abbrev pub BreaksFortran : ℕ → ℕ → List ℕ → Place → Tag → Type 0
 BreaksFortran file before text place tag = BreaksLexis file before text place tag ⊎ BreaksStatements file before text place tag
 
--- the rule of this tag is broken first in the text of a C file
+-- the rule of this tag is broken first in the preprocessing of a C file
 abbrev pub BreaksPreprocessing : Files → ℕ → ℕ → List ℕ → Place → Tag → Type 0
 BreaksPreprocessing files file before text place tag = (used : ℕ) × ((k : ℕ) → IsAt (expanded_at files file before text (used + k)) place tag)
+
+-- a C text breaks no rule of preprocessing, and its external declarations break this one first
+pub record BreaksExternals (files : Files) (file before : ℕ) (text : List ℕ) (place : Place) (tag : Tag) : Type 0 where
+  pub tokens : List CSpanned
+  pub expands : Expands files file before text tokens
+  pub broken : IsBrokenUnit tokens place tag
+
+-- the rule of this tag is broken first in the text of a C file: one of preprocessing, or else one of its grammar
+abbrev pub BreaksC : Files → ℕ → ℕ → List ℕ → Place → Tag → Type 0
+BreaksC files file before text place tag = BreaksPreprocessing files file before text place tag ⊎ BreaksExternals files file before text place tag
 
 -- the file of this name is listed, and its text breaks this rule first
 pub record IsBroken (files : Files) (place : Place) (tag : Tag) (name : List ℕ) (file before : ℕ) : Type 0 where
   pub text : List ℕ
   pub is_listed : listed files name ≡ Some text
-  pub breaks : ((is_fortran_name name ≡ true) × BreaksFortran file before text place tag) ⊎ ((is_fortran_name name ≡ false) × BreaksPreprocessing files file before text place tag)
+  pub breaks : ((is_fortran_name name ≡ true) × BreaksFortran file before text place tag) ⊎ ((is_fortran_name name ≡ false) × BreaksC files file before text place tag)
 
 -- the text of a C file includes the file of this name next, behind so many others that were given and with no rule broken before
 pub record IsIncluded (files : Files) (asked name : List ℕ) (file before : ℕ) : Type 0 where

@@ -7,10 +7,11 @@ use jf_base::Text;
 use jf_outside::Library;
 use std::alloc::Global;
 
-/// Reads the files of these names in order, each with its headers where it is C's. The answer is their bytes, tokens and statements, or the first fault:
-/// a file that the library doesn't give, or the first broken rule. A Fortran file is held to the rules of source form (`L01` to `L08`) and then to those
-/// of statements (`S01` to `S03`), a C file to those of the preprocessor (`P01` to `P10`), and the next file is read behind that. Tokens are counted over
-/// all files. It takes time in proportion to what `lex`, `read_statements` and `expand` take for each file.
+/// Reads the files of these names in order, each with its headers where it is C's. The answer is their bytes and tokens with their statements or external
+/// declarations, or the first fault: a file that the library doesn't give, or the first broken rule. A Fortran file is held to the rules of source form
+/// (`L01` to `L08`) and then to those of statements (`S01` to `S03`), a C file to those of the preprocessor (`P01` to `P10`) and then to those of its
+/// grammar (`G01` and `G02`), and the next file is read behind that. Tokens are counted over all files. It takes time in proportion to what `lex`,
+/// `read_statements`, `expand` and `read_c` take for each file.
 pub fn read_sources<L: Library>(
     alloc: Global,
     names: &[Text],

@@ -1,5 +1,5 @@
-//! The files of a program, each read from the library up to its tokens, and to its statements where it is in Fortran: Fortran's by its free source form and
-//! its grammar, C's behind its preprocessor.
+//! The files of a program, each read from the library up to its statements where it is in Fortran, by its free source form and its grammar, and up to its
+//! external declarations where it is in C, behind its preprocessor and by its grammar.
 #![tactic(auto)]
 
 mod files;

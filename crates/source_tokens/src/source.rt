@@ -1,10 +1,12 @@
 //! One file.
-ghost use Rattle.std.specs.Prelude.{◌≡◌, ◌≤◌};
+ghost use Rattle.std.specs.Prelude.{◌≡◌, ◌≤◌, length};
 ghost use Rattle.source_tokens.specs.Sources.{count, is_fortran_name};
-ghost use Rattle.source_tokens.specs.Reading.{seen_tokens, source_fault, IsNamed, IsText, IsParsed, IsFortran, IsC, IsRead};
+ghost use Rattle.source_tokens.specs.Reading.{seen_tokens, source_fault, preprocessing_fault, IsNamed, IsText, IsParsed, IsFortran, AreRecognized, IsC, IsRead};
 
 use c_pre::{PreFault, expand};
+use c_read::read_c;
 use c_token::CSpanned;
+use c_tree::CUnit;
 use f_file_read::read_statements;
 use f_lex::{Spanned, lex};
 use f_statement_read::Statement;
@@ -13,14 +15,17 @@ use jf_outside::{Library, LibraryFault};
 use std::alloc::Global;
 
 /// The tokens of a file: those of Fortran's free source form with the statements that they are, or those of C behind directives, macro replacement and
-/// headers.
+/// headers with the external declarations that they are.
 #[derive(Drop)]
 pub enum SourceTokens {
     Fortran {
         tokens: List<Spanned>,
         statements: List<Statement>,
     },
-    C(List<CSpanned>),
+    C {
+        tokens: List<CSpanned>,
+        unit: CUnit,
+    },
 }
 
 impl SourceTokens {
@@ -30,7 +35,7 @@ impl SourceTokens {
     {
         match self {
             SourceTokens::Fortran { tokens, .. } => tokens.len(),
-            SourceTokens::C(tokens) => tokens.len(),
+            SourceTokens::C { tokens, .. } => tokens.len(),
         }
     }
 }
@@ -129,6 +134,37 @@ fn fortran_source(
     }
 }
 
+// The file of these bytes and tokens in C.
+fn with_externals(
+    alloc: Global,
+    text: List<u8>,
+    tokens: Vec<CSpanned>,
+) -> Result<SourceFile, SourceFault>
+    requires { length tokens.items ≤ 262144 }
+    ensures { AreRecognized text tokens.items result }
+{
+    match read_c(alloc, tokens.as_slice()) {
+        Ok(unit) => Ok(SourceFile {
+            text,
+            tokens: SourceTokens::C {
+                tokens: List(tokens),
+                unit,
+            },
+        }),
+        Err(refusal) => Err(source_fault(refusal)),
+    }
+}
+
+fn preprocessing_fault(fault: PreFault) -> SourceFault
+    ensures { result ≡ preprocessing_fault fault }
+{
+    match fault {
+        PreFault::Memory => SourceFault::Memory,
+        PreFault::Library { name } => SourceFault::Library(name),
+        PreFault::At { place, tag } => SourceFault::Source { place, tag },
+    }
+}
+
 // The file of these bytes in C, with its headers.
 fn c_source<L: Library>(
     alloc: Global,
@@ -145,13 +181,8 @@ fn c_source<L: Library>(
         (record { listing = L.files library.new; faults = L.faults library.new; strays = L.strays library.new }) }
 {
     match expand(alloc, file, before, name.as_str(), text.as_slice(), library) {
-        Ok(tokens) => Ok(SourceFile {
-            text,
-            tokens: SourceTokens::C(List(tokens)),
-        }),
-        Err(PreFault::Memory) => Err(SourceFault::Memory),
-        Err(PreFault::Library { name }) => Err(SourceFault::Library(name)),
-        Err(PreFault::At { place, tag }) => Err(SourceFault::Source { place, tag }),
+        Ok(tokens) => with_externals(alloc, text, tokens),
+        Err(fault) => Err(preprocessing_fault(fault)),
     }
 }
 

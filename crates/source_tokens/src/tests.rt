@@ -17,7 +17,7 @@ fn library(
     Ok(MemoryLibrary::new(list, failing.to_vec(alloc)?))
 }
 
-// The language and the number of tokens, and behind a slash that of a Fortran file's statements.
+// The language and the number of tokens, and behind a slash that of a Fortran file's statements or of a C file's external declarations.
 fn put_count(alloc: Global, out: &mut Vec<u8>, tokens: &SourceTokens) -> Result<(), AllocError> {
     let number = tokens.count();
     let text = match tokens {
@@ -25,7 +25,10 @@ fn put_count(alloc: Global, out: &mut Vec<u8>, tokens: &SourceTokens) -> Result<
             let statements = statements.len();
             format!(in alloc; "F{number}/{statements} ")?
         }
-        SourceTokens::C(_) => format!(in alloc; "C{number} ")?,
+        SourceTokens::C { unit, .. } => {
+            let externals = unit.externals.len();
+            format!(in alloc; "C{number}/{externals} ")?
+        }
     };
     out.extend_from_slice(text.as_str().as_bytes())
 }
@@ -45,7 +48,7 @@ fn put_fault(alloc: Global, out: &mut Vec<u8>, fault: &SourceFault) -> Result<()
     }
 }
 
-// The language, the number of tokens and that of statements of each file, or the fault.
+// The language, the number of tokens and that of statements or external declarations of each file, or the fault.
 fn shown(
     alloc: Global,
     names: &[&str],
@@ -91,11 +94,11 @@ fn each_file_has_its_tokens(rt: HostRuntime) -> Result<(), Fail> {
     ];
     assert_eq!(rt;
         shown(alloc, &["p.f90", "q.c", "r.f90"], &files, &[])?.as_slice(),
-        b"F9/3 C18 F0/0 ".as_slice()
+        b"F9/3 C18/2 F0/0 ".as_slice()
     );
     assert_eq!(rt;
         shown(alloc, &["q.c"], &files, &[])?.as_slice(),
-        b"C18 ".as_slice()
+        b"C18/2 ".as_slice()
     );
     assert_eq!(rt; shown(alloc, &[], &files, &[])?.as_slice(), b"".as_slice());
     Ok(())
@@ -253,26 +256,87 @@ fn a_file_that_is_not_given_is_named(rt: HostRuntime) -> Result<(), Fail> {
 fn tokens_are_counted_over_all_files(rt: HostRuntime) -> Result<(), Fail> {
     let alloc = rt.alloc();
     let mut long = Vec::new(alloc);
-    for _ in 0..262_143 {
-        long.extend_from_slice(b"a ")?;
+    for _ in 0..87_380 {
+        long.extend_from_slice(b"int a;")?;
     }
     let files = [
         ("a.c", long.as_slice()),
-        ("b.c", b"b".as_slice()),
-        ("c.c", b"b c".as_slice()),
-        ("d.f90", b"d".as_slice()),
+        ("b.c", b"int b;".as_slice()),
+        ("c.c", b"int b; int c;".as_slice()),
+        ("d.f90", b"a b c d".as_slice()),
     ];
     assert_eq!(rt;
         shown(alloc, &["a.c", "b.c"], &files, &[])?.as_slice(),
-        b"C262143 C1 ".as_slice()
+        b"C262140/87380 C3/1 ".as_slice()
     );
     assert_eq!(rt;
         shown(alloc, &["a.c", "c.c"], &files, &[])?.as_slice(),
-        b"1:1:3: 510".as_slice()
+        b"1:1:12: 510".as_slice()
     );
     assert_eq!(rt;
         shown(alloc, &["a.c", "d.f90"], &files, &[])?.as_slice(),
-        b"1:1:2: 107".as_slice()
+        b"1:1:8: 107".as_slice()
     );
+    Ok(())
+}
+
+// A variable with a number in so many parentheses.
+fn nested_value(alloc: Global, parentheses: u32) -> Result<Vec<u8>, AllocError> {
+    let mut text = b"int a = ".to_vec(alloc)?;
+    for _ in 0..parentheses {
+        text.push(b'(')?;
+    }
+    text.push(b'1')?;
+    for _ in 0..parentheses {
+        text.push(b')')?;
+    }
+    text.extend_from_slice(b";\n")?;
+    Ok(text)
+}
+
+#[test]
+fn values_of_c_nest_up_to_their_limit(rt: HostRuntime) -> Result<(), Fail> {
+    let alloc = rt.alloc();
+    let fits = nested_value(alloc, 64)?;
+    let deeper = nested_value(alloc, 65)?;
+    let files = [("a.c", fits.as_slice()), ("b.c", deeper.as_slice())];
+    assert_eq!(rt;
+        shown(alloc, &["a.c", "b.c"], &files, &[])?.as_slice(),
+        b"1:1:73: 602".as_slice()
+    );
+    assert_eq!(rt;
+        shown(alloc, &["a.c"], &files, &[])?.as_slice(),
+        b"C133/1 ".as_slice()
+    );
+    Ok(())
+}
+
+// In one file preprocessing stands before the grammar, and a file is read up to its external declarations before the next is asked for.
+#[test]
+fn external_declarations_are_read_file_by_file(rt: HostRuntime) -> Result<(), Fail> {
+    let alloc = rt.alloc();
+    let files = [
+        ("a.c", b"int a;\n".as_slice()),
+        ("form.c", b"int x\n".as_slice()),
+        ("second.c", b"int a;\n int b\n".as_slice()),
+        ("header.c", b"\n#include \"form.h\"\nint a;\n".as_slice()),
+        ("form.h", b"int b\n".as_slice()),
+        ("both.c", b"int x\n#if 1\n".as_slice()),
+        ("late.f90", LATE_USE),
+    ];
+    for (first, second, told) in [
+        ("form.c", "late.f90", b"0:1:1: 601".as_slice()),
+        ("second.c", "a.c", b"0:2:2: 601".as_slice()),
+        ("header.c", "a.c", b"0:2:1: 601".as_slice()),
+        ("both.c", "form.c", b"0:2:1: 504".as_slice()),
+        ("a.c", "form.c", b"1:1:1: 601".as_slice()),
+        ("form.c", "absent.c", b"0:1:1: 601".as_slice()),
+        ("late.f90", "form.c", b"0:3:1: 202".as_slice()),
+    ] {
+        assert_eq!(rt;
+            shown(alloc, &[first, second], &files, &[])?.as_slice(),
+            told
+        );
+    }
     Ok(())
 }

@@ -1,17 +1,16 @@
 use Rattle.std.proofs.Common.{map, ap, ◌∙◌, ◌≡◌, ◌+◌, ◌-◌, List, length, refl, sym, ℕ, take, Ok, ◌∷◌, false}
 use Rattle.std.proofs.lemmas.Result.{err_from_is_err_and}
 use Rattle.c_grammar.specs.Grammar.{Expr, Name, Joint, Choose, no_links, after, after_joint, after_links, Assign, Scope, Suffix, after_suffix, no_more, param, after_more, after_param, no_suffixes, suffix, after_suffixes, Post, after_posts, no_posts, post, after_post, no_members, after_members, no_decls, another, after_decls, after_decl, no_items, item, after_items, after_item, no_specs, spec, after_spec, after_specs}
-use Rattle.c_grammar.specs.Reading.{inner, chain, more_at, suffixes_at, level_at, posts_at, members_at, decls_at, items_at, specs_at, specs_end}
+use Rattle.c_grammar.specs.Reading.{inner, chain, more_at, suffixes_at, level_at, posts_at, members_at, decls_at, items_at, specs_at, specifiers_at}
 use Rattle.c_expression_read.specs.Views.{view, view_target, links_of, shifted, view_link, view_choice, linked, commas_of, comma, view_parameters, view_typed, view_suffix, call_of, view_postfix, posts_of, view_declarator, view_members, decls_of, members, view_enumerator, view_specifier}
 use Rattle.c_expression_read.proofs.Levels.{level_fails_first, level_fails, level_goes, level_declares, level_fails_any, level_goes_any, arguments_fail, arguments_open, arguments_go, called_fails, after-posts}
 use Rattle.c_tree.specs.Heights.{rank}
 use Rattle.c_expression_read.proofs.Heights.{rank-low, not-eleven-10, not-eleven-12, rank-tighter}
 use Rattle.c_expression_read.specs.Gives.{behind, called}
-use Rattle.c_expression_read.proofs.Loops.{begun, on, fails, no_more_of, done, goes_on, declares, ends, done_by}
+use Rattle.c_expression_read.proofs.Loops.{begun, on, fails, no_more_of, done, goes_on, declares}
 use Rattle.c_expression_read.proofs.Shifts.{shift_on, first_on, shift_declares, link_declares, step_members, after-members, members_declare}
-use Rattle.c_expression_read.proofs.Turns.{any_links, choice_next, choice_fails, chosen_fails, links_stops, links_zero, links_next, links_fails, commas_next, commas_fails, left_links, target_next, target_fails, target_stops, target_zero, more_next, more_fails, more_stops, more_zero, suffixes_next, suffixes_fails, suffixes_stops, suffixes_zero, posts_next, posts_fails, posts_stops, posts_zero, members_next, members_fails, members_stops, members_zero, decls_next, decls_fails, decls_stops, decls_zero, items_next, items_fails, items_stops, items_zero, based_specs, specs_next, specs_fails, specs_stops, specs_zero}
+use Rattle.c_expression_read.proofs.Turns.{any_links, choice_next, choice_fails, chosen_fails, links_stops, links_zero, links_next, links_fails, commas_next, commas_fails, left_links, target_next, target_fails, target_stops, target_zero, more_next, more_fails, more_stops, more_zero, suffixes_next, suffixes_fails, suffixes_stops, suffixes_zero, posts_next, posts_fails, posts_stops, posts_zero, members_next, members_fails, members_stops, members_zero, decls_next, decls_fails, decls_stops, decls_zero, items_next, items_fails, items_stops, items_zero, based_specs, specs_begun, specs_next, specs_fails, specs_stops, specs_zero}
 use Rattle.c_grammar.proofs.Kept.{kept}
-use Rattle.c_expression_read.proofs.Specified.{specified_reads, specified_declares}
 use Rattle.c_expression_read.proofs.+reader.Goals as goal
 
 pub chain::assignment-returns-in_err-first-clause-read : goal.chain::assignment-returns-in_err-first-clause-read
@@ -408,7 +407,7 @@ pub specifier::other_enumerators-returns-clause-scope : goal.specifier::other_en
 specifier::other_enumerators-returns-clause-scope t c = c.enumerators.invariant.scoped
 
 pub specifier::specifiers-specifiers-init : goal.specifier::specifiers-specifiers-init
-specifier::specifiers-specifiers-init t c = rw c.new-specifiers.ensures.items (record { reads = begun spec (based_specs (inner c.args.depth)) (length c.args.tokens.now) (false, c.args.scope.now) c.args.tokens.now; scoped = refl })
+specifier::specifiers-specifiers-init t c = rw c.new-specifiers.ensures.items (record { reads = begun spec (based_specs (inner c.args.depth)) (length c.args.tokens.now) (false, c.args.scope.now) c.args.tokens.now ∙ specs_begun (inner c.args.depth) c.args.scope.now c.args.tokens.now (sym c.starts_type.ensures ∙ c.if-not-starts_type.false); scoped = refl })
 
 pub specifier::specifiers-specifiers-preserved : goal.specifier::specifiers-specifiers-preserved
 specifier::specifiers-specifiers-preserved t c =
@@ -423,13 +422,13 @@ specifier::specifiers-returns-in_err-one-clause-read t c =
     rw (p.1, p.2) (fails no_specs spec (based_specs (inner c.args.depth)) (map view_specifier c.specifiers.specifiers.items) (length c.args.tokens.now) c.specifiers.counter (c.specifiers.based, c.specifiers.scope) c.specifiers.rest.now _ c.specifiers.invariant.reads c.in_err-one.field-0.0 c.specifiers-test.true (specs_fails (inner c.args.depth) c.specifiers.based c.specifiers.scope c.specifiers.rest.now c.in_err-one.field-0.0 (sym c.begins_specifier.ensures ∙ c.if-not-begins_specifier.false) c.in_err-one.ensures.read))
 
 pub specifier::specifiers-returns-then-not-begins_specifier-clause-read : goal.specifier::specifiers-returns-then-not-begins_specifier-clause-read
-specifier::specifiers-returns-then-not-begins_specifier-clause-read t c = specified_reads (λ x. (x.0.items, x.1.now)) c.specifiers.specifiers.items c.specifiers.rest.now _ c.specifiers.based c.specified.result (ends no_specs spec (based_specs (inner c.args.depth)) (map view_specifier c.specifiers.specifiers.items) (length c.args.tokens.now) c.specifiers.counter (c.specifiers.based, c.specifiers.scope) c.specifiers.rest.now _ c.specifiers.invariant.reads c.specifiers-test.true (specs_end c.specifiers.based c.specifiers.rest.now) (specs_stops (inner c.args.depth) c.specifiers.based c.specifiers.scope c.specifiers.rest.now (sym c.begins_specifier.ensures ∙ c.if-not-begins_specifier.true))) c.specified.ensures
+specifier::specifiers-returns-then-not-begins_specifier-clause-read t c = no_more_of no_specs spec (based_specs (inner c.args.depth)) (map view_specifier c.specifiers.specifiers.items) (length c.args.tokens.now) c.specifiers.counter (c.specifiers.based, c.specifiers.scope) c.specifiers.rest.now _ c.specifiers.invariant.reads c.specifiers-test.true (specs_stops (inner c.args.depth) c.specifiers.based c.specifiers.scope c.specifiers.rest.now (sym c.begins_specifier.ensures ∙ c.if-not-begins_specifier.true))
 
 pub specifier::specifiers-returns-then-not-begins_specifier-clause-scope : goal.specifier::specifiers-returns-then-not-begins_specifier-clause-scope
-specifier::specifiers-returns-then-not-begins_specifier-clause-scope t c = specified_declares (λ x. (x.0.items, x.1.now)) c.specifiers.specifiers.items c.specifiers.rest.now (specs_at (inner c.args.depth) (length c.args.tokens.now) false c.args.scope.now c.args.tokens.now) c.specifiers.based c.specified.result _ c.args.scope.now c.specifiers.invariant.scoped c.specified.ensures
+specifier::specifiers-returns-then-not-begins_specifier-clause-scope t c = c.specifiers.invariant.scoped
 
 pub specifier::specifiers-returns-clause-read : goal.specifier::specifiers-returns-clause-read
-specifier::specifiers-returns-clause-read t c = specified_reads (λ x. (x.0.items, x.1.now)) c.specifiers.specifiers.items c.specifiers.rest.now _ c.specifiers.based c.specified-2.result (done_by no_specs spec (based_specs (inner c.args.depth)) (map view_specifier c.specifiers.specifiers.items) (length c.args.tokens.now) c.specifiers.counter (c.specifiers.based, c.specifiers.scope) c.specifiers.rest.now _ c.specifiers.invariant.reads c.specifiers-test.false (specs_end c.specifiers.based c.specifiers.rest.now) (specs_zero (inner c.args.depth) c.specifiers.based c.specifiers.scope c.specifiers.rest.now)) c.specified-2.ensures
+specifier::specifiers-returns-clause-read t c = done no_specs spec (based_specs (inner c.args.depth)) (map view_specifier c.specifiers.specifiers.items) (length c.args.tokens.now) c.specifiers.counter (c.specifiers.based, c.specifiers.scope) c.specifiers.rest.now _ c.specifiers.invariant.reads c.specifiers-test.false (specs_zero (inner c.args.depth) c.specifiers.based c.specifiers.scope c.specifiers.rest.now)
 
 pub specifier::specifiers-returns-clause-scope : goal.specifier::specifiers-returns-clause-scope
-specifier::specifiers-returns-clause-scope t c = specified_declares (λ x. (x.0.items, x.1.now)) c.specifiers.specifiers.items c.specifiers.rest.now (specs_at (inner c.args.depth) (length c.args.tokens.now) false c.args.scope.now c.args.tokens.now) c.specifiers.based c.specified-2.result _ c.args.scope.now c.specifiers.invariant.scoped c.specified-2.ensures
+specifier::specifiers-returns-clause-scope t c = c.specifiers.invariant.scoped

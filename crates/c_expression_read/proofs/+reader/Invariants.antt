@@ -1,7 +1,7 @@
 use Rattle.std.proofs.Common.{◌+◌, ◌*◌, ◌≡◌, ◌-◌, length, map, false}
 use Rattle.c_tree.specs.Heights.{rank}
 use Rattle.c_grammar.specs.Grammar.{after_links, param, after_more, suffix, after_suffixes, post, after_posts, after_members, another, after_decls, item, after_items, spec, after_specs}
-use Rattle.c_grammar.specs.Reading.{inner, more_at, suffixes_at, posts_at, members_at, decls_at, items_at, specs_at}
+use Rattle.c_grammar.specs.Reading.{inner, more_at, suffixes_at, posts_at, members_at, decls_at, items_at, specs_at, specifiers_at}
 use Rattle.c_expression_read.specs.Gives.{behind}
 use Rattle.c_expression_read.specs.Views.{view, view_choice, linked, links_of, first_of, shifted, view_link, commas_of, comma, view_target, view_typed, more_of, view_suffix, suffixes_of, view_postfix, posts_of, view_members, members_of, members, view_declarator, decls_of, view_enumerator, items_of, view_specifier, specs_of}
 use Rattle.c_expression_read.proofs.Loops.{ReadsFrom, Reads}
@@ -207,4 +207,4 @@ abbrev pub invariant-specifier::other_enumerators-enumerators : goal.invariant-s
 invariant-specifier::other_enumerators-enumerators l = Reads (behind item (map view_enumerator l.others.items) (items_at (inner l.depth) (length l.tokens - l.counter) l.scope l.rest)) (items_at (inner l.depth) (length l.tokens) l.fn.scope l.tokens) l.scope (after_items (items_of (map view_enumerator l.others.items)) l.fn.scope)
 
 abbrev pub invariant-specifier::specifiers-specifiers : goal.invariant-specifier::specifiers-specifiers
-invariant-specifier::specifiers-specifiers l = Reads (behind spec (map view_specifier l.specifiers.items) (based_specs (inner l.depth) (length l.tokens - l.counter) (l.based, l.scope) l.rest)) (specs_at (inner l.depth) (length l.tokens) false l.fn.scope l.tokens) l.scope (after_specs (specs_of (map view_specifier l.specifiers.items)) l.fn.scope)
+invariant-specifier::specifiers-specifiers l = Reads (behind spec (map view_specifier l.specifiers.items) (based_specs (inner l.depth) (length l.tokens - l.counter) (l.based, l.scope) l.rest)) (specifiers_at (inner l.depth) l.fn.scope l.tokens) l.scope (after_specs (specs_of (map view_specifier l.specifiers.items)) l.fn.scope)

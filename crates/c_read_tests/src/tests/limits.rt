@@ -45,6 +45,42 @@ fn check_limit(
     Ok(())
 }
 
+// It has no form; where the part stands 65 times, it breaks this rule.
+fn check_formless(
+    rt: &impl Abort,
+    alloc: Global,
+    before: (&str, &str),
+    after: (&str, &str),
+    fault: &str,
+) -> Result<(), Fail> {
+    let deepest = nested(alloc, before, "1", after, 64)?;
+    assert_eq!(rt; deepest.as_str(), "601 at 1:1", "of {fault}");
+    let deeper = nested(alloc, before, "1", after, 65)?;
+    assert_eq!(rt; deeper.as_str(), fault, "of {fault}");
+    Ok(())
+}
+
+#[test]
+fn nesting_behind_a_fault_is_told(rt: HostRuntime) -> Result<(), Fail> {
+    let alloc = rt.alloc();
+    check_formless(&rt, alloc, ("int 3 a = ", "("), (")", ";"), "602 at 1:75")?;
+    check_formless(&rt, alloc, ("int a[2)] = ", "{"), ("}", ";"), "602 at 1:77")
+}
+
+#[test]
+fn nesting_behind_the_declaration_is_not_told(rt: HostRuntime) -> Result<(), Fail> {
+    let alloc = rt.alloc();
+    check_formless(
+        &rt,
+        alloc,
+        ("int 3; int a = ", "("),
+        (")", ";"),
+        "601 at 1:1",
+    )?;
+    let function = ("int f(void) { x y; } int a = ", "(");
+    check_formless(&rt, alloc, function, (")", ";"), "601 at 1:1")
+}
+
 #[test]
 fn initial_values_nest(rt: HostRuntime) -> Result<(), Fail> {
     let fault = "602 at 1:73";

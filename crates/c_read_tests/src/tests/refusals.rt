@@ -17,7 +17,27 @@ int a[2) ; => 601 at 1:1
 int a; int f(a) { } => 601 at 1:8
 int f(int a) int b; { } => 601 at 1:1
 int a : 3; => 601 at 1:1
-int a; int f(void) { x = (1; } int c; => 601 at 1:8";
+int a; int f(void) { x = (1; } int c; => 601 at 1:8
+int f(void) { for (int; ; ) ; } => 601 at 1:1
+int a; int f(void) { for (struct s { int b; }; ; ) ; } => 601 at 1:8";
+
+const NO_BASE: &str = "const a; => declaration
+static a, *b; => declaration
+extern f(void) { return 1; } => function of 10
+typedef a; a b; => declaration, declaration
+typedef int T; const T; => declaration, declaration
+typedef int T; const T T; => declaration, declaration
+typedef int T; const *T; => declaration, declaration
+typedef int T; const (T); => declaration, declaration
+typedef int T; const T T T; => 601 at 1:16
+struct s { const a; }; => declaration
+typedef int T; struct s { const T; }; => 601 at 1:16
+int f(const a, const); => declaration
+int a = sizeof(const); => declaration
+int f(void) { for (const a = 1; ; ) ; } => function of 17
+int f(void) { for (int a; ; ) ; } => function of 15
+int f(void) { static a; int; } => function of 12
+a const; => 601 at 1:1";
 
 const UNUSED: &str = "int a; int f(void) { goto b; } => 601 at 1:8
 float a; => 601 at 1:1
@@ -48,6 +68,11 @@ fn what_has_no_form_is_told_by_its_first_token(rt: HostRuntime) -> Result<(), Fa
 #[test]
 fn keywords_without_use_stand_nowhere(rt: HostRuntime) -> Result<(), Fail> {
     check(&rt, rt.alloc(), UNUSED)
+}
+
+#[test]
+fn specifiers_need_no_base(rt: HostRuntime) -> Result<(), Fail> {
+    check(&rt, rt.alloc(), NO_BASE)
 }
 
 #[test]

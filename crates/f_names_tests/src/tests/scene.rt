@@ -1,6 +1,6 @@
 //! Programs of single lines, as their items.
 
-use f_items::{Access, Class, Declared, Item, Name, Need, ScopeKind, Share};
+use f_items::{Access, Class, Declared, DeclaredType, Item, Name, Need, ScopeKind, Share};
 use jf_base::{List, Place};
 use std::alloc::{AllocError, Global};
 
@@ -17,12 +17,18 @@ fn name(alloc: Global, text: &str) -> Result<Name, AllocError> {
     })
 }
 
-fn declared(alloc: Global, class: Class, share: Share, text: &str) -> Result<Declared, AllocError> {
+fn declared(
+    alloc: Global,
+    class: Class,
+    share: Share,
+    of_type: DeclaredType,
+    text: &str,
+) -> Result<Declared, AllocError> {
     Ok(Declared {
         name: name(alloc, text)?,
         class,
         share,
-        of_type: None,
+        of_type,
         access: None,
     })
 }
@@ -56,9 +62,18 @@ fn class_of(verb: &str) -> Option<(Class, Share)> {
         "typed" => Some((Class::Data, Share::Typed)),
         "procedure" => Some((Class::Procedure, Share::Whole)),
         "component" => Some((Class::Component, Share::Whole)),
+        "opaque" => Some((Class::DerivedType, Share::Whole)),
         "abstract" => Some((Class::AbstractInterface, Share::Whole)),
         _ => None,
     }
+}
+
+// The type in a declaration, if it is a derived one.
+fn type_of(alloc: Global, text: &str) -> Result<DeclaredType, AllocError> {
+    if text.is_empty() {
+        return Ok(DeclaredType::NotDerived);
+    }
+    Ok(DeclaredType::Derived(List::from_vec(text.as_bytes().to_vec(alloc)?)))
 }
 
 fn need_of(verb: &str) -> Option<Need> {
@@ -69,6 +84,7 @@ fn need_of(verb: &str) -> Option<Need> {
         "of" => Some(Need::Type),
         "interface" => Some(Need::Interface),
         "variable" => Some(Need::Variable),
+        "object" => Some(Need::Object),
         _ => None,
     }
 }
@@ -129,6 +145,9 @@ fn other_of(alloc: Global, verb: &str, words: [&str; 3]) -> Result<Item, AllocEr
         "import" => import_of(alloc, first),
         "private" => access_of(alloc, Access::Private, first),
         "public" => access_of(alloc, Access::Public, first),
+        "select" => Ok(Item::Selects(name(alloc, first)?)),
+        "(" => Ok(Item::Inside),
+        ")" => Ok(Item::Outside),
         "untyped" => Ok(Item::Untyped { place: NO_PLACE }),
         _ => Ok(Item::Leave),
     }
@@ -145,12 +164,28 @@ fn put_scope(
         kind,
         place: NO_PLACE,
     })?;
-    let named = declared(alloc, class, Share::Whole, text)?;
+    let named = declared(alloc, class, Share::Whole, DeclaredType::NotDerived, text)?;
     if declares_in_itself(kind) {
         items.push(Item::Declares(named))?;
     } else {
         items.push(Item::Heads(named))?;
     }
+    Ok(())
+}
+
+// The begin of a SELECT RANK construct: its associate name, and its selector.
+fn put_rank(
+    alloc: Global,
+    items: &mut Vec<Item>,
+    associate: &str,
+    selector: &str,
+) -> Result<(), AllocError> {
+    items.push(Item::Enter {
+        kind: ScopeKind::SelectRank,
+        place: NO_PLACE,
+    })?;
+    let of_type = DeclaredType::OfSelector(List::from_vec(selector.as_bytes().to_vec(alloc)?));
+    items.push(Item::Declares(declared(alloc, Class::Data, Share::Whole, of_type, associate)?))?;
     Ok(())
 }
 
@@ -160,12 +195,16 @@ fn put(
     verb: &str,
     words: [&str; 3],
 ) -> Result<(), AllocError> {
-    let [first, _, _] = words;
+    let [first, second, _] = words;
     if let Some((kind, class)) = scope_of(verb) {
         return put_scope(alloc, items, kind, class, first);
     }
+    if verb == "rank" {
+        return put_rank(alloc, items, first, second);
+    }
     if let Some((class, share)) = class_of(verb) {
-        items.push(Item::Declares(declared(alloc, class, share, first)?))?;
+        let of_type = type_of(alloc, second)?;
+        items.push(Item::Declares(declared(alloc, class, share, of_type, first)?))?;
         return Ok(());
     }
     if let Some(need) = need_of(verb) {

@@ -97,7 +97,10 @@ const UNENDED: &str = "\nprogram p\nimplicit none\n";
 const DEEP: &str =
     "program p\nprint *, (((((((((((((((((((((((((((((((((((((((((((((((((((((((((((((((((1)))))))))))))))))))))))))))))))))))))))))))))))))))))))))))))))))\nend\n";
 
-const TEXTS: [(&str, &str); 12] = [
+const DEEP_VALUE: &str =
+    "int a =\n(((((((((((((((((((((((((((((((((((((((((((((((((((((((((((((((((1)))))))))))))))))))))))))))))))))))))))))))))))))))))))))))))))));\n";
+
+const TEXTS: [(&str, &str); 16] = [
     ("p.f90", FORTRAN),
     ("q.c", C),
     ("open.f90", OPEN_TEXT),
@@ -110,10 +113,14 @@ const TEXTS: [(&str, &str); 12] = [
     ("absent.c", "#include \"absent.h\"\n#if 1\n"),
     ("deep.c", "#if 1\n#include \"broken.h\"\n#endif\n"),
     ("broken.h", "#error\n"),
+    ("form.c", "int x\n"),
+    ("second.c", "int a;\nint b\n"),
+    ("value.c", DEEP_VALUE),
+    ("both.c", "int x\n#if 1\n"),
 ];
 
 // The words, the status, and the first file that isn't given or the first broken rule, in the order in which the texts are read.
-const BROKEN: [(&str, u8, &str); 20] = [
+const BROKEN: [(&str, u8, &str); 27] = [
     ("run open.f90 q.c", 202, "open.f90:2: L04\n"),
     ("run p.f90 if.c", 202, "if.c:2: P04\n"),
     ("run p.f90 function.c", 202, "function.c:1: P06\n"),
@@ -134,6 +141,13 @@ const BROKEN: [(&str, u8, &str); 20] = [
     ("run open.f90 late.f90", 202, "open.f90:2: L04\n"),
     ("run if.c late.f90", 202, "if.c:2: P04\n"),
     ("run q.c p.f90 late.f90", 202, "late.f90:3: S02\n"),
+    ("run p.f90 form.c", 202, "form.c:1: G01\n"),
+    ("run p.f90 second.c", 202, "second.c:2: G01\n"),
+    ("run p.f90 value.c", 202, "value.c:2: G02\n"),
+    ("run p.f90 both.c", 202, "both.c:2: P04\n"),
+    ("run p.f90 q.c form.c", 202, "form.c:1: G01\n"),
+    ("run form.c late.f90", 202, "form.c:1: G01\n"),
+    ("run form.c y.c", 202, "form.c:1: G01\n"),
 ];
 
 #[test]

@@ -1,9 +1,8 @@
-use Rattle.std.proofs.Common.{◌≡◌, ◌<◌, ◌^◌, ℕ, List, [], length, map, Ok, Err, sym, subst}
+use Rattle.std.proofs.Common.{◌≡◌, ◌<◌, ◌^◌, ℕ, List, [], length, map, Ok, Err, sym, subst, ◌∙◌}
 use Rattle.std.specs.Prelude.{sum}
 use Rattle.std.specs.declared.alloc.Global.{Global}
 use Rattle.std.specs.declared.vec.Vec.{Vec}
 use Rattle.jf_base.specs.declared.place.Refusal.{Refusal}
-use Rattle.jf_base.specs.declared.place.Place.{Place}
 use Rattle.c_tree.specs.declared.unit.External.{External}
 use Rattle.c_grammar.specs.declared.token.Token.{Token}
 use Rattle.c_external_read.specs.Files as externals
@@ -30,6 +29,5 @@ pub returns-in-Err-clause-read : goal.returns-in-Err-clause-read
 returns-in-Err-clause-read c =
     let view = λ (v : Vec External Global). map view_external v.items in
     let e = subst (λ (ts : List Token). externals.Answers view (Err c.in-Err.error) (externals_at deepest (length ts) [] ts)) c.as_slice.ensures c.in-Err.ensures.read in
-    subst (λ (r : Refusal). Answers view_unit (Err r) (read_file c.args.tokens.now)) (sym c.refused.ensures)
-    (subst (λ (ps : List Place). Answers view_unit (Err (refused ps c.in-Err.error)) (read_file c.args.tokens.now)) (sym c.as_slice-in-Err.ensures)
-    (is_refused c.args.tokens.now c.args.words c.requires.words view c.in-Err.error e))
+    let same = c.refused.ensures ∙ (λ i. refused (c.as_slice-in-Err.ensures i) (c.as_slice-in-Err-2.ensures i) c.in-Err.error) in
+    subst (λ (r : Refusal). Answers view_unit (Err r) (read_file c.args.tokens.now)) (sym same) (is_refused c.args.tokens.now c.args.words c.requires.words view c.in-Err.error e)

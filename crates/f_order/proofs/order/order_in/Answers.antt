@@ -9,6 +9,9 @@ order_modules-requires-clause-done c =
     let P : List ℕ → Type 0 = λ l. AreDone c.args.program.now l c.in_ok-done.done.items in
     subst P (sym c.new-order.ensures.items) (unit_first c.args.program.now c.in_ok-done.done.items (c.in_ok-done.ensures ∙ ap (λ n. replicate n false) c.scope_count.ensures))
 
+pub order_modules-requires-clause-none : goal.order_modules-requires-clause-none
+order_modules-requires-clause-none c = c.in_ok-done.ensures ∙ ap (λ n. replicate n false) c.scope_count.ensures
+
 pub order_others-requires-clause-modules : goal.order_others-requires-clause-modules
 order_others-requires-clause-modules c =
     let m = c.args.graph.now.modules.now in

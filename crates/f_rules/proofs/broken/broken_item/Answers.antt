@@ -6,5 +6,5 @@ use Rattle.f_rules.proofs.broken.broken_item.Goals as goal
 pub returns-in-Untyped : goal.returns-in-Untyped
 returns-in-Untyped c l at =
     let p = c.args.program.now.items in
-    let one = some_one (slice_get p c.args.place) l c.requires.located at c.requires.at in
-    untyped p c.args.place l c.in-Untyped.place (ap (λ x. x.item) one ∙ c.requires.item_is ∙ c.in-Untyped.is)
+    let one = some_one (slice_get p c.args.place) l c.requires.at.located at c.requires.at.at in
+    untyped p c.args.place l c.in-Untyped.place (ap (λ x. x.item) one ∙ c.requires.at.item_is ∙ c.in-Untyped.is)

@@ -1,5 +1,5 @@
 use Rattle.std.proofs.Common.{◌≡◌, ◌<◌, ◌+◌, ◌-◌, get_or, length, sym, ◌∙◌, arith}
-use Rattle.std.specs.Prelude.{false}
+use Rattle.f_unit_items.specs.declared.expression.PartRole.TheVariants.{Selected}
 use Rattle.f_unit_items.specs.Expressions.{expression, link, part, argument, parameter}
 use Rattle.f_unit_items.proofs.Steps.{each-step, given-step}
 use Rattle.f_unit_items.proofs.expression.+names.Goals as goal
@@ -35,7 +35,7 @@ put_selected-loop-left-preserved t c =
     let bound = c.loop-left.invariant.within in
     let within : left - 1 < length xs = omega arith in
     let here : get_or xs (left - 1) item ≡ item = sym c.index-parts-left.is in
-    record { within = omega arith; so_far = rw (c.in_ok-put_part.ensures) (given-step false part xs left (left - 1) item c.loop-left.out one within here ∙ c.loop-left.invariant.so_far) }
+    record { within = omega arith; so_far = rw (c.in_ok-put_part.ensures) (given-step Selected part xs left (left - 1) item c.loop-left.out one within here ∙ c.loop-left.invariant.so_far) }
 
 pub put_arguments-loop-left-preserved : goal.put_arguments-loop-left-preserved
 put_arguments-loop-left-preserved t c =

@@ -1,6 +1,6 @@
 use Rattle.std.proofs.Common.{◌≡◌, ◌≤◌, map, take, length}
 use Rattle.f_unit_items.specs.Fronts.{each, each_given}
-use Rattle.std.specs.Prelude.{false}
+use Rattle.f_unit_items.specs.declared.expression.PartRole.TheVariants.{Selected}
 use Rattle.f_unit_items.specs.Expressions.{expression, link, part, argument, parameter}
 use Rattle.f_unit_items.proofs.expression.+names.Given as goal
 
@@ -17,7 +17,7 @@ abbrev pub decreases-put_links-loop-left : goal.decreases-put_links-loop-left
 decreases-put_links-loop-left l = l.left
 
 abbrev pub invariant-put_selected-loop-left : goal.invariant-put_selected-loop-left
-invariant-put_selected-loop-left l = record { within : l.left ≤ length l.parts; so_far : each_given false (map part (take l.left l.parts)) l.out ≡ each_given false (map part l.parts) l.initial.out }
+invariant-put_selected-loop-left l = record { within : l.left ≤ length l.parts; so_far : each_given Selected (map part (take l.left l.parts)) l.out ≡ each_given Selected (map part l.parts) l.initial.out }
 
 abbrev pub decreases-put_selected-loop-left : goal.decreases-put_selected-loop-left
 decreases-put_selected-loop-left l = l.left

@@ -1,0 +1,4 @@
+pub mod Walking
+pub mod Lines
+pub mod Views
+pub mod Parts

@@ -1,0 +1,4 @@
+pub mod Counting
+pub mod Scoping
+pub mod Referring
+pub mod Refusing

@@ -1,0 +1,14 @@
+use Rattle.std.proofs.Common.{rules, ◌≡◌, ◌∷◌, List, refl, ap, ◌∙◌}
+use Rattle.std.proofs.lemmas.Result.{on_ok_weaker}
+use Rattle.f_tree.specs.declared.declaration.Declaration.{Declaration}
+use Rattle.f_tree.specs.declared.declaration.Declaration.TheVariants as declaration
+use Rattle.f_tree.specs.declared.declaration.Declaration.TheFolds.{the_lemmas}
+use Rattle.f_statement_grammar.specs.Statements as grammar
+use Rattle.f_unit_parts.specs.Units.{declaration_lines, declarations_of, interface_lines}
+use Rattle.f_unit_parts.proofs.Lists.{each_last}
+use Rattle.f_unit_parts.proofs.made.push_interface.Goals as goal
+
+pub returns : goal.returns
+returns c =
+    let last : (rest : List grammar.Statement) → declaration_lines (declaration.Interface c.args.interface) rest ≡ interface_lines c.args.interface rest = λ rest. search (rules, the_lemmas) in
+    on_ok_weaker c.push.result (λ e rest. ap (λ (xs : List Declaration). declarations_of xs rest) e ∙ each_last declaration_lines c.args.declarations.now (declaration.Interface c.args.interface) rest ∙ ap (declarations_of c.args.declarations.now) (last rest)) c.push.ensures.ok

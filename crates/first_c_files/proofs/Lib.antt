@@ -1,0 +1,10 @@
+pub mod FormUnits
+pub mod FormWords
+pub mod Bits
+pub mod Bytes
+pub mod FormLines
+pub mod Joining
+pub mod Room
+pub mod Running
+pub mod FormTexts
+pub mod FormFiles
