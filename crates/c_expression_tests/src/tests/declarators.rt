@@ -26,6 +26,8 @@ int ( a ) [ 3 ] => { int ( a ) [ 3 ] }
 int ( * a ) [ 3 ] => { int ( * a ) [ 3 ] }
 int f ( int ( * ) ( char ) , int ( * g ) ( char ) ) => { int f ( { int ( * _ ) ( { char _ } ) } , { int ( * g ) ( { char _ } ) } ) }
 unsigned T => { unsigned T }
+const * a => { const * a }
+int f ( const ) => { int f ( { const _ } ) }
 T T => { T T }
 T ( T ) => { T ( T ) }";
 

@@ -42,7 +42,6 @@ sizeof ( int ) a => < sizeof { int _ } > .. 1
 ( int => form at 2
 ( int ) => form at 3
 ( T a ) b => form at 2
-( const ) a => form at 2
 return => form at 0
 goto => form at 0
 { a } => form at 0";
@@ -55,9 +54,6 @@ sizeof - ( T ) a => < sizeof < - < cast { T _ } a > > >
 ++ - a => < ++ < - a > >";
 
 const OF_SPECIFIERS: &str = "a => form at 0
-const => form at 1
-typedef static const => form at 3
-const a => form at 1
 struct => form at 1
 struct ; => form at 1
 struct s { => form at 3
@@ -98,9 +94,7 @@ int f ( int => form at 4
 int f ( a ) => form at 3
 int f ( int , ) => form at 5
 int f ( int ; => form at 4
-int f ( const ) => form at 4
 int f ( int a b ) => form at 5
-const * a => form at 1
 int const => form at 2
 int restrict a => form at 1";
 

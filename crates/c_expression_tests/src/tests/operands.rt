@@ -83,6 +83,7 @@ const CONVERSIONS: &str = "( T ) - 1 => < cast { T _ } < - 1 > >
 ( T ) sizeof ( U ) => < cast { T _ } < sizeof { U _ } > >
 ( int * ) p => < cast { int * _ } p >
 ( const unsigned char * const ) p => < cast { const unsigned char * const _ } p >
+( const ) a => < cast { const _ } a >
 ( struct s * ) p => < cast { struct s * _ } p >
 ( enum e ) a => < cast { enum e _ } a >
 ( int ( * ) ( char ) ) f => < cast { int ( * _ ) ( { char _ } ) } f >

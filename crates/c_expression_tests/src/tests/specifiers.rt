@@ -16,16 +16,19 @@ struct s => struct s
 enum e => enum e
 CFI_CDESC_T ( 0 ) => CFI_CDESC_T 0
 CFI_CDESC_T ( 15u ) => CFI_CDESC_T 15u
+const => const
+typedef static const => typedef static const
 T => T
 const T => const T
 T const => T const";
 
-const NAMES_BEHIND_A_BASE: &str = "unsigned T => unsigned .. 1
+const NAMES_THAT_ARE_NONE: &str = "unsigned T => unsigned .. 1
 T T => T .. 1
 const T T => const T .. 1
 struct s T => struct s .. 1
 int a => int .. 1
-T a => T .. 1";
+T a => T .. 1
+const a => const .. 1";
 
 const STRUCTS: &str = "struct { int a ; } => struct { int a ; }
 struct s { } => struct s { }
@@ -50,12 +53,12 @@ fn words_and_tags(rt: HostRuntime) -> Result<(), Fail> {
 }
 
 #[test]
-fn behind_a_base_a_name_is_no_type(rt: HostRuntime) -> Result<(), Fail> {
+fn names_that_are_no_types(rt: HostRuntime) -> Result<(), Fail> {
     check(
         &rt,
         rt.alloc(),
         Reading::of(Form::Specifiers),
-        NAMES_BEHIND_A_BASE,
+        NAMES_THAT_ARE_NONE,
     )
 }
 
