@@ -91,12 +91,12 @@ view_field f = grammar.entity f.name.bytes (view_dimensions f.dimensions) gramma
 unfoldable pub component_line : Component → Statement
 component_line c = Declaring (grammar.Variables (view_type c.declared) (dimension_of c.dimensions) true (map view_field c.fields))
 
--- the words that end something; END alone with a name behind it ends nothing, as ELSE does
+-- the words that end something; END alone with a name behind it ends no unit, as END IF does
 abbrev pub ended : grammar.Ended → EndingForm → Option Name → Statement
 ended what OneWord name = Declaring (grammar.EndOf what true (option_map view_name name))
 ended what TwoWords name = Declaring (grammar.EndOf what false (option_map view_name name))
 ended what Bare None = Declaring grammar.End
-ended what Bare (Some name) = Executable line.Else
+ended what Bare (Some name) = Executable (line.End line.If false)
 
 unfoldable pub end_line : grammar.Ended → Ending → Statement
 end_line what e = ended what e.form e.name

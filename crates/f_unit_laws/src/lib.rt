@@ -1,0 +1,6 @@
+//! The trees of program units and the trees of their statements, as laws.
+#![tactic(auto)]
+
+mod laws;
+
+pub use laws::a_law;
