@@ -1,14 +1,13 @@
-//! Laws of trees of units.
+//! Laws of trees of program units.
 
-ghost use Rattle.std.specs.Prelude.{◌≡◌, List};
+ghost use Rattle.std.specs.Prelude.{◌≡◌, List, []};
+ghost use Rattle.f_tree.specs.declared.unit.Unit.{Unit as ProgramUnit};
 ghost use Rattle.f_statement_grammar.specs.Statements.{Statement};
-ghost use Rattle.f_unit_grammar.specs.Units.{spell_tree};
-ghost use Rattle.f_tree.specs.declared.statement.Statement.{Statement as Tree};
-ghost use Rattle.f_construct_parts.specs.Lines.{lines_of};
-ghost use Rattle.f_unit_laws.specs.Shapes.{bare_block};
-ghost use Rattle.f_unit_laws.specs.Derivations.{block_tree};
+ghost use Rattle.f_unit_grammar.specs.Units.{IsFile, spell_trees};
+ghost use Rattle.f_unit_parts.specs.Units.{units_of};
+ghost use Rattle.f_unit_laws.specs.Derivations.{derivation};
 
-/// A law.
-pub fn a_law()
-    ensures { (t : Tree) (rest : List Statement) → spell_tree (block_tree (bare_block t)) rest ≡ lines_of t rest }
+/// The statements of units are those of the trees that the units say; where they are a file, its trees are these.
+pub fn units_are_derivations()
+    ensures { (units : List ProgramUnit) → (spell_trees (derivation units) [] ≡ units_of units []) × ((file : IsFile (units_of units [])) → file.trees ≡ derivation units) }
 {}

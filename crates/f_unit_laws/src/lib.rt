@@ -3,4 +3,4 @@
 
 mod laws;
 
-pub use laws::a_law;
+pub use laws::units_are_derivations;
