@@ -5,3 +5,5 @@ pub mod Sorts
 pub mod Formed
 pub mod Sorted
 pub mod Derived
+pub mod BlockShapes
+pub mod UnitShapes

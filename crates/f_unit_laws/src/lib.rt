@@ -3,4 +3,4 @@
 
 mod laws;
 
-pub use laws::units_are_derivations;
+pub use laws::{one_tree, units_are_derivations};
