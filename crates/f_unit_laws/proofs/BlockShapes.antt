@@ -1,5 +1,5 @@
 -- The trees of a block's statements tell the block.
-use Rattle.std.proofs.Common.{◌≡◌, ℕ, List, [], ◌∷◌, Option, Some, None, Bool, true, false, refl, sym, ap, ◌∙◌}
+use Rattle.std.proofs.Common.{◌≡◌, Some, None, true, false, refl, ap, ◌∙◌}
 use Rattle.f_tree.specs.declared.declaration.EndingForm.TheVariants.{Bare, TwoWords, OneWord}
 use Rattle.f_grammar.specs.Actions as act
 use Rattle.f_line_grammar.specs.Lines as line

@@ -1,5 +1,5 @@
 -- The statements of a construct are those of its trees of statements.
-use Rattle.std.proofs.Common.{◌≡◌, List, [], ◌∷◌, Option, Some, None, Bool, true, false, map, refl, sym, ap, subst, ◌∙◌}
+use Rattle.std.proofs.Common.{◌≡◌, List, [], ◌∷◌, Option, Some, None, Bool, map, refl, sym, ap, subst, ◌∙◌}
 use Rattle.std.specs.Option.{option_map}
 use Rattle.f_tree.specs.declared.name.Name.{Name}
 use Rattle.f_tree.specs.declared.declaration.EndingForm.{EndingForm}
@@ -9,7 +9,7 @@ use Rattle.f_tree.specs.declared.statement.CaseChoice.{CaseChoice}
 use Rattle.f_tree.specs.declared.statement.CaseChoice.TheVariants as choice
 use Rattle.f_tree.specs.declared.statement.RankChoice.{RankChoice}
 use Rattle.f_tree.specs.declared.statement.RankChoice.TheVariants as rank_choice
-use Rattle.f_tree.specs.declared.statement.Statement.{Statement as Construct, fold-Statement, map-Statement, ind-Statement, roll-Statement, fold-roll-Statement}
+use Rattle.f_tree.specs.declared.statement.Statement.{Statement as Construct, map-Statement, ind-Statement, roll-Statement, fold-roll-Statement}
 use Rattle.f_tree.specs.declared.statement.Statement.TheOpen as open_
 use Rattle.f_tree.specs.declared.statement.Statement.TheOpen.{Statement-F, Case-F, DoConstruct-F, Else-F, ElseIf-F, IfConstruct-F, RankCase-F, SelectCase-F, SelectRank-F}
 use Rattle.f_tree.specs.declared.statement.Statement.TheFolds.{fold-Case, fold-DoConstruct, fold-Else, fold-ElseIf, fold-IfConstruct, fold-RankCase, fold-SelectCase, fold-SelectRank, map-Case, map-DoConstruct, map-Else, map-ElseIf, map-IfConstruct, map-RankCase, map-SelectCase, map-SelectRank, fold-roll-Case, fold-roll-DoConstruct, fold-roll-Else, fold-roll-ElseIf, fold-roll-IfConstruct, fold-roll-RankCase, fold-roll-SelectCase, fold-roll-SelectRank}
@@ -24,14 +24,11 @@ use Rattle.f_tree.specs.declared.statement.SelectCase.{SelectCase}
 use Rattle.f_tree.specs.declared.statement.SelectRank.{SelectRank}
 use Rattle.f_grammar.specs.Grammar.{Expr}
 use Rattle.f_line_grammar.specs.Lines as line
-use Rattle.f_declaration_grammar.specs.Declarations as grammar
-use Rattle.f_statement_grammar.specs.Statements.{Statement, Executable, Declaring}
+use Rattle.f_statement_grammar.specs.Statements.{Statement, Executable}
 use Rattle.f_unit_grammar.specs.Units.{Trees, no_trees, spell_tree, spell_trees}
-use Rattle.f_expr_read.specs.Views.{view}
-use Rattle.f_line_read.specs.Lines.{view_choice, view_rank, view_range}
 use Rattle.f_declared.specs.Views.{view_name}
 use Rattle.f_construct_parts.specs.Lines.{Front, each, optional, blocks_of, ended, end_line, action_line, guarded_line, if_line, else_if_line, loop_line, select_case_line, case_line, select_rank_line, rank_line as rank_statement, statement_step, case_step, do_step, else_step, else_if_step, if_step, rank_step, select_step, select_rank_step, lines_of, case_lines, do_lines, else_lines, else_if_lines, if_lines, rank_lines, select_lines, select_rank_lines}
-use Rattle.f_unit_laws.specs.Shapes.{Close, close, Values, RankOf, Block, Blocks, no_blocks, block, blocks, bare_blocks, else_ifs_of, otherwise_of, cases_of, ranks_of, bare_choice, bare_rank, bare_ending, values_of, bare_block, statement_bare, case_bare, do_bare, else_bare, else_if_bare, if_bare, rank_bare, select_bare, select_rank_bare}
+use Rattle.f_unit_laws.specs.Shapes.{close, Values, RankOf, Block, Blocks, no_blocks, block, blocks, bare_blocks, else_ifs_of, otherwise_of, cases_of, ranks_of, bare_choice, bare_rank, bare_ending, bare_block, statement_bare, case_bare, do_bare, else_bare, else_if_bare, if_bare, rank_bare, select_bare, select_rank_bare}
 use Rattle.f_unit_laws.specs.Derivations.{construct_end, values_line, rank_line, block_tree, block_trees, else_if_trees, otherwise_trees, case_trees, rank_trees}
 
 -- ---- each construct without its places, and its statements
@@ -60,6 +57,9 @@ bare_select = fold-SelectCase Block (Values × Blocks) Block Blocks (Bool × Exp
 abbrev bare_select_rank : SelectRank → Block
 bare_select_rank = fold-SelectRank Block (Values × Blocks) Block Blocks (Bool × Expr × Blocks) Block (RankOf × Blocks) Block Block statement_bare case_bare do_bare else_bare else_if_bare if_bare rank_bare select_bare select_rank_bare
 
+abbrev block_front : Block → Front
+block_front b = spell_tree (block_tree b)
+
 abbrev case_front : Values × Blocks → Front
 case_front c rest = Executable (values_line c.0) ∷ spell_trees (block_trees c.1 no_trees) rest
 
@@ -75,13 +75,13 @@ rank_front r rest = Executable (rank_line r.0) ∷ spell_trees (block_trees r.1 
 -- ---- the statements are those of the trees
 
 abbrev IsBlock : Construct → Type 0
-IsBlock c = (rest : List Statement) → spell_tree (block_tree (bare_block c)) rest ≡ lines_of c rest
+IsBlock c = (rest : List Statement) → block_front (bare_block c) rest ≡ lines_of c rest
 
 abbrev IsCase : Case → Type 0
 IsCase c = (rest : List Statement) → case_front (bare_case c) rest ≡ case_lines c rest
 
 abbrev IsDo : DoConstruct → Type 0
-IsDo c = (rest : List Statement) → spell_tree (block_tree (bare_do c)) rest ≡ do_lines c rest
+IsDo c = (rest : List Statement) → block_front (bare_do c) rest ≡ do_lines c rest
 
 abbrev IsElse : Else → Type 0
 IsElse c = (rest : List Statement) → else_front (bare_else c) rest ≡ else_lines c rest
@@ -90,72 +90,100 @@ abbrev IsElseIf : ElseIf → Type 0
 IsElseIf c = (rest : List Statement) → else_if_front (bare_else_if c) rest ≡ else_if_lines c rest
 
 abbrev IsIf : IfConstruct → Type 0
-IsIf c = (rest : List Statement) → spell_tree (block_tree (bare_if c)) rest ≡ if_lines c rest
+IsIf c = (rest : List Statement) → block_front (bare_if c) rest ≡ if_lines c rest
 
 abbrev IsRank : RankCase → Type 0
 IsRank c = (rest : List Statement) → rank_front (bare_rank_part c) rest ≡ rank_lines c rest
 
 abbrev IsSelect : SelectCase → Type 0
-IsSelect c = (rest : List Statement) → spell_tree (block_tree (bare_select c)) rest ≡ select_lines c rest
+IsSelect c = (rest : List Statement) → block_front (bare_select c) rest ≡ select_lines c rest
 
 abbrev IsSelectRank : SelectRank → Type 0
-IsSelectRank c = (rest : List Statement) → spell_tree (block_tree (bare_select_rank c)) rest ≡ select_rank_lines c rest
+IsSelectRank c = (rest : List Statement) → block_front (bare_select_rank c) rest ≡ select_rank_lines c rest
 
--- a layer whose parts each have a proof
-abbrev ShownStatement : Type 0
-ShownStatement = Statement-F ((c : Construct) × IsBlock c) ((c : Case) × IsCase c) ((c : DoConstruct) × IsDo c) ((c : Else) × IsElse c) ((c : ElseIf) × IsElseIf c) ((c : IfConstruct) × IsIf c) ((c : RankCase) × IsRank c) ((c : SelectCase) × IsSelect c) ((c : SelectRank) × IsSelectRank c)
+-- a construct with its proof
+abbrev ShownBlock : Type 0
+ShownBlock = (c : Construct) × IsBlock c
 
 abbrev ShownCase : Type 0
-ShownCase = Case-F ((c : Construct) × IsBlock c) ((c : Case) × IsCase c) ((c : DoConstruct) × IsDo c) ((c : Else) × IsElse c) ((c : ElseIf) × IsElseIf c) ((c : IfConstruct) × IsIf c) ((c : RankCase) × IsRank c) ((c : SelectCase) × IsSelect c) ((c : SelectRank) × IsSelectRank c)
+ShownCase = (c : Case) × IsCase c
 
-abbrev ShownDoConstruct : Type 0
-ShownDoConstruct = DoConstruct-F ((c : Construct) × IsBlock c) ((c : Case) × IsCase c) ((c : DoConstruct) × IsDo c) ((c : Else) × IsElse c) ((c : ElseIf) × IsElseIf c) ((c : IfConstruct) × IsIf c) ((c : RankCase) × IsRank c) ((c : SelectCase) × IsSelect c) ((c : SelectRank) × IsSelectRank c)
+abbrev ShownDo : Type 0
+ShownDo = (c : DoConstruct) × IsDo c
 
 abbrev ShownElse : Type 0
-ShownElse = Else-F ((c : Construct) × IsBlock c) ((c : Case) × IsCase c) ((c : DoConstruct) × IsDo c) ((c : Else) × IsElse c) ((c : ElseIf) × IsElseIf c) ((c : IfConstruct) × IsIf c) ((c : RankCase) × IsRank c) ((c : SelectCase) × IsSelect c) ((c : SelectRank) × IsSelectRank c)
+ShownElse = (c : Else) × IsElse c
 
 abbrev ShownElseIf : Type 0
-ShownElseIf = ElseIf-F ((c : Construct) × IsBlock c) ((c : Case) × IsCase c) ((c : DoConstruct) × IsDo c) ((c : Else) × IsElse c) ((c : ElseIf) × IsElseIf c) ((c : IfConstruct) × IsIf c) ((c : RankCase) × IsRank c) ((c : SelectCase) × IsSelect c) ((c : SelectRank) × IsSelectRank c)
+ShownElseIf = (c : ElseIf) × IsElseIf c
 
-abbrev ShownIfConstruct : Type 0
-ShownIfConstruct = IfConstruct-F ((c : Construct) × IsBlock c) ((c : Case) × IsCase c) ((c : DoConstruct) × IsDo c) ((c : Else) × IsElse c) ((c : ElseIf) × IsElseIf c) ((c : IfConstruct) × IsIf c) ((c : RankCase) × IsRank c) ((c : SelectCase) × IsSelect c) ((c : SelectRank) × IsSelectRank c)
+abbrev ShownIf : Type 0
+ShownIf = (c : IfConstruct) × IsIf c
 
-abbrev ShownRankCase : Type 0
-ShownRankCase = RankCase-F ((c : Construct) × IsBlock c) ((c : Case) × IsCase c) ((c : DoConstruct) × IsDo c) ((c : Else) × IsElse c) ((c : ElseIf) × IsElseIf c) ((c : IfConstruct) × IsIf c) ((c : RankCase) × IsRank c) ((c : SelectCase) × IsSelect c) ((c : SelectRank) × IsSelectRank c)
+abbrev ShownRank : Type 0
+ShownRank = (c : RankCase) × IsRank c
 
-abbrev ShownSelectCase : Type 0
-ShownSelectCase = SelectCase-F ((c : Construct) × IsBlock c) ((c : Case) × IsCase c) ((c : DoConstruct) × IsDo c) ((c : Else) × IsElse c) ((c : ElseIf) × IsElseIf c) ((c : IfConstruct) × IsIf c) ((c : RankCase) × IsRank c) ((c : SelectCase) × IsSelect c) ((c : SelectRank) × IsSelectRank c)
+abbrev ShownSelect : Type 0
+ShownSelect = (c : SelectCase) × IsSelect c
 
 abbrev ShownSelectRank : Type 0
-ShownSelectRank = SelectRank-F ((c : Construct) × IsBlock c) ((c : Case) × IsCase c) ((c : DoConstruct) × IsDo c) ((c : Else) × IsElse c) ((c : ElseIf) × IsElseIf c) ((c : IfConstruct) × IsIf c) ((c : RankCase) × IsRank c) ((c : SelectCase) × IsSelect c) ((c : SelectRank) × IsSelectRank c)
+ShownSelectRank = (c : SelectRank) × IsSelectRank c
+
+-- a layer whose parts each have a proof
+abbrev BlockLayer : Type 0
+BlockLayer = Statement-F ShownBlock ShownCase ShownDo ShownElse ShownElseIf ShownIf ShownRank ShownSelect ShownSelectRank
+
+abbrev CaseLayer : Type 0
+CaseLayer = Case-F ShownBlock ShownCase ShownDo ShownElse ShownElseIf ShownIf ShownRank ShownSelect ShownSelectRank
+
+abbrev DoLayer : Type 0
+DoLayer = DoConstruct-F ShownBlock ShownCase ShownDo ShownElse ShownElseIf ShownIf ShownRank ShownSelect ShownSelectRank
+
+abbrev ElseLayer : Type 0
+ElseLayer = Else-F ShownBlock ShownCase ShownDo ShownElse ShownElseIf ShownIf ShownRank ShownSelect ShownSelectRank
+
+abbrev ElseIfLayer : Type 0
+ElseIfLayer = ElseIf-F ShownBlock ShownCase ShownDo ShownElse ShownElseIf ShownIf ShownRank ShownSelect ShownSelectRank
+
+abbrev IfLayer : Type 0
+IfLayer = IfConstruct-F ShownBlock ShownCase ShownDo ShownElse ShownElseIf ShownIf ShownRank ShownSelect ShownSelectRank
+
+abbrev RankLayer : Type 0
+RankLayer = RankCase-F ShownBlock ShownCase ShownDo ShownElse ShownElseIf ShownIf ShownRank ShownSelect ShownSelectRank
+
+abbrev SelectLayer : Type 0
+SelectLayer = SelectCase-F ShownBlock ShownCase ShownDo ShownElse ShownElseIf ShownIf ShownRank ShownSelect ShownSelectRank
+
+abbrev SelectRankLayer : Type 0
+SelectRankLayer = SelectRank-F ShownBlock ShownCase ShownDo ShownElse ShownElseIf ShownIf ShownRank ShownSelect ShownSelectRank
 
 -- the value of a layer, without the proofs
-abbrev plain_Statement : ShownStatement → Statement-F Construct Case DoConstruct Else ElseIf IfConstruct RankCase SelectCase SelectRank
-plain_Statement y = map-Statement ((c : Construct) × IsBlock c) ((c : Case) × IsCase c) ((c : DoConstruct) × IsDo c) ((c : Else) × IsElse c) ((c : ElseIf) × IsElseIf c) ((c : IfConstruct) × IsIf c) ((c : RankCase) × IsRank c) ((c : SelectCase) × IsSelect c) ((c : SelectRank) × IsSelectRank c) Construct Case DoConstruct Else ElseIf IfConstruct RankCase SelectCase SelectRank (λ e. e.0) (λ e. e.0) (λ e. e.0) (λ e. e.0) (λ e. e.0) (λ e. e.0) (λ e. e.0) (λ e. e.0) (λ e. e.0) y
+abbrev plain_block : BlockLayer → Statement-F Construct Case DoConstruct Else ElseIf IfConstruct RankCase SelectCase SelectRank
+plain_block y = map-Statement ShownBlock ShownCase ShownDo ShownElse ShownElseIf ShownIf ShownRank ShownSelect ShownSelectRank Construct Case DoConstruct Else ElseIf IfConstruct RankCase SelectCase SelectRank (λ e. e.0) (λ e. e.0) (λ e. e.0) (λ e. e.0) (λ e. e.0) (λ e. e.0) (λ e. e.0) (λ e. e.0) (λ e. e.0) y
 
-abbrev plain_Case : ShownCase → Case-F Construct Case DoConstruct Else ElseIf IfConstruct RankCase SelectCase SelectRank
-plain_Case y = map-Case ((c : Construct) × IsBlock c) ((c : Case) × IsCase c) ((c : DoConstruct) × IsDo c) ((c : Else) × IsElse c) ((c : ElseIf) × IsElseIf c) ((c : IfConstruct) × IsIf c) ((c : RankCase) × IsRank c) ((c : SelectCase) × IsSelect c) ((c : SelectRank) × IsSelectRank c) Construct Case DoConstruct Else ElseIf IfConstruct RankCase SelectCase SelectRank (λ e. e.0) (λ e. e.0) (λ e. e.0) (λ e. e.0) (λ e. e.0) (λ e. e.0) (λ e. e.0) (λ e. e.0) (λ e. e.0) y
+abbrev plain_case : CaseLayer → Case-F Construct Case DoConstruct Else ElseIf IfConstruct RankCase SelectCase SelectRank
+plain_case y = map-Case ShownBlock ShownCase ShownDo ShownElse ShownElseIf ShownIf ShownRank ShownSelect ShownSelectRank Construct Case DoConstruct Else ElseIf IfConstruct RankCase SelectCase SelectRank (λ e. e.0) (λ e. e.0) (λ e. e.0) (λ e. e.0) (λ e. e.0) (λ e. e.0) (λ e. e.0) (λ e. e.0) (λ e. e.0) y
 
-abbrev plain_DoConstruct : ShownDoConstruct → DoConstruct-F Construct Case DoConstruct Else ElseIf IfConstruct RankCase SelectCase SelectRank
-plain_DoConstruct y = map-DoConstruct ((c : Construct) × IsBlock c) ((c : Case) × IsCase c) ((c : DoConstruct) × IsDo c) ((c : Else) × IsElse c) ((c : ElseIf) × IsElseIf c) ((c : IfConstruct) × IsIf c) ((c : RankCase) × IsRank c) ((c : SelectCase) × IsSelect c) ((c : SelectRank) × IsSelectRank c) Construct Case DoConstruct Else ElseIf IfConstruct RankCase SelectCase SelectRank (λ e. e.0) (λ e. e.0) (λ e. e.0) (λ e. e.0) (λ e. e.0) (λ e. e.0) (λ e. e.0) (λ e. e.0) (λ e. e.0) y
+abbrev plain_do : DoLayer → DoConstruct-F Construct Case DoConstruct Else ElseIf IfConstruct RankCase SelectCase SelectRank
+plain_do y = map-DoConstruct ShownBlock ShownCase ShownDo ShownElse ShownElseIf ShownIf ShownRank ShownSelect ShownSelectRank Construct Case DoConstruct Else ElseIf IfConstruct RankCase SelectCase SelectRank (λ e. e.0) (λ e. e.0) (λ e. e.0) (λ e. e.0) (λ e. e.0) (λ e. e.0) (λ e. e.0) (λ e. e.0) (λ e. e.0) y
 
-abbrev plain_Else : ShownElse → Else-F Construct Case DoConstruct Else ElseIf IfConstruct RankCase SelectCase SelectRank
-plain_Else y = map-Else ((c : Construct) × IsBlock c) ((c : Case) × IsCase c) ((c : DoConstruct) × IsDo c) ((c : Else) × IsElse c) ((c : ElseIf) × IsElseIf c) ((c : IfConstruct) × IsIf c) ((c : RankCase) × IsRank c) ((c : SelectCase) × IsSelect c) ((c : SelectRank) × IsSelectRank c) Construct Case DoConstruct Else ElseIf IfConstruct RankCase SelectCase SelectRank (λ e. e.0) (λ e. e.0) (λ e. e.0) (λ e. e.0) (λ e. e.0) (λ e. e.0) (λ e. e.0) (λ e. e.0) (λ e. e.0) y
+abbrev plain_else : ElseLayer → Else-F Construct Case DoConstruct Else ElseIf IfConstruct RankCase SelectCase SelectRank
+plain_else y = map-Else ShownBlock ShownCase ShownDo ShownElse ShownElseIf ShownIf ShownRank ShownSelect ShownSelectRank Construct Case DoConstruct Else ElseIf IfConstruct RankCase SelectCase SelectRank (λ e. e.0) (λ e. e.0) (λ e. e.0) (λ e. e.0) (λ e. e.0) (λ e. e.0) (λ e. e.0) (λ e. e.0) (λ e. e.0) y
 
-abbrev plain_ElseIf : ShownElseIf → ElseIf-F Construct Case DoConstruct Else ElseIf IfConstruct RankCase SelectCase SelectRank
-plain_ElseIf y = map-ElseIf ((c : Construct) × IsBlock c) ((c : Case) × IsCase c) ((c : DoConstruct) × IsDo c) ((c : Else) × IsElse c) ((c : ElseIf) × IsElseIf c) ((c : IfConstruct) × IsIf c) ((c : RankCase) × IsRank c) ((c : SelectCase) × IsSelect c) ((c : SelectRank) × IsSelectRank c) Construct Case DoConstruct Else ElseIf IfConstruct RankCase SelectCase SelectRank (λ e. e.0) (λ e. e.0) (λ e. e.0) (λ e. e.0) (λ e. e.0) (λ e. e.0) (λ e. e.0) (λ e. e.0) (λ e. e.0) y
+abbrev plain_else_if : ElseIfLayer → ElseIf-F Construct Case DoConstruct Else ElseIf IfConstruct RankCase SelectCase SelectRank
+plain_else_if y = map-ElseIf ShownBlock ShownCase ShownDo ShownElse ShownElseIf ShownIf ShownRank ShownSelect ShownSelectRank Construct Case DoConstruct Else ElseIf IfConstruct RankCase SelectCase SelectRank (λ e. e.0) (λ e. e.0) (λ e. e.0) (λ e. e.0) (λ e. e.0) (λ e. e.0) (λ e. e.0) (λ e. e.0) (λ e. e.0) y
 
-abbrev plain_IfConstruct : ShownIfConstruct → IfConstruct-F Construct Case DoConstruct Else ElseIf IfConstruct RankCase SelectCase SelectRank
-plain_IfConstruct y = map-IfConstruct ((c : Construct) × IsBlock c) ((c : Case) × IsCase c) ((c : DoConstruct) × IsDo c) ((c : Else) × IsElse c) ((c : ElseIf) × IsElseIf c) ((c : IfConstruct) × IsIf c) ((c : RankCase) × IsRank c) ((c : SelectCase) × IsSelect c) ((c : SelectRank) × IsSelectRank c) Construct Case DoConstruct Else ElseIf IfConstruct RankCase SelectCase SelectRank (λ e. e.0) (λ e. e.0) (λ e. e.0) (λ e. e.0) (λ e. e.0) (λ e. e.0) (λ e. e.0) (λ e. e.0) (λ e. e.0) y
+abbrev plain_if : IfLayer → IfConstruct-F Construct Case DoConstruct Else ElseIf IfConstruct RankCase SelectCase SelectRank
+plain_if y = map-IfConstruct ShownBlock ShownCase ShownDo ShownElse ShownElseIf ShownIf ShownRank ShownSelect ShownSelectRank Construct Case DoConstruct Else ElseIf IfConstruct RankCase SelectCase SelectRank (λ e. e.0) (λ e. e.0) (λ e. e.0) (λ e. e.0) (λ e. e.0) (λ e. e.0) (λ e. e.0) (λ e. e.0) (λ e. e.0) y
 
-abbrev plain_RankCase : ShownRankCase → RankCase-F Construct Case DoConstruct Else ElseIf IfConstruct RankCase SelectCase SelectRank
-plain_RankCase y = map-RankCase ((c : Construct) × IsBlock c) ((c : Case) × IsCase c) ((c : DoConstruct) × IsDo c) ((c : Else) × IsElse c) ((c : ElseIf) × IsElseIf c) ((c : IfConstruct) × IsIf c) ((c : RankCase) × IsRank c) ((c : SelectCase) × IsSelect c) ((c : SelectRank) × IsSelectRank c) Construct Case DoConstruct Else ElseIf IfConstruct RankCase SelectCase SelectRank (λ e. e.0) (λ e. e.0) (λ e. e.0) (λ e. e.0) (λ e. e.0) (λ e. e.0) (λ e. e.0) (λ e. e.0) (λ e. e.0) y
+abbrev plain_rank : RankLayer → RankCase-F Construct Case DoConstruct Else ElseIf IfConstruct RankCase SelectCase SelectRank
+plain_rank y = map-RankCase ShownBlock ShownCase ShownDo ShownElse ShownElseIf ShownIf ShownRank ShownSelect ShownSelectRank Construct Case DoConstruct Else ElseIf IfConstruct RankCase SelectCase SelectRank (λ e. e.0) (λ e. e.0) (λ e. e.0) (λ e. e.0) (λ e. e.0) (λ e. e.0) (λ e. e.0) (λ e. e.0) (λ e. e.0) y
 
-abbrev plain_SelectCase : ShownSelectCase → SelectCase-F Construct Case DoConstruct Else ElseIf IfConstruct RankCase SelectCase SelectRank
-plain_SelectCase y = map-SelectCase ((c : Construct) × IsBlock c) ((c : Case) × IsCase c) ((c : DoConstruct) × IsDo c) ((c : Else) × IsElse c) ((c : ElseIf) × IsElseIf c) ((c : IfConstruct) × IsIf c) ((c : RankCase) × IsRank c) ((c : SelectCase) × IsSelect c) ((c : SelectRank) × IsSelectRank c) Construct Case DoConstruct Else ElseIf IfConstruct RankCase SelectCase SelectRank (λ e. e.0) (λ e. e.0) (λ e. e.0) (λ e. e.0) (λ e. e.0) (λ e. e.0) (λ e. e.0) (λ e. e.0) (λ e. e.0) y
+abbrev plain_select : SelectLayer → SelectCase-F Construct Case DoConstruct Else ElseIf IfConstruct RankCase SelectCase SelectRank
+plain_select y = map-SelectCase ShownBlock ShownCase ShownDo ShownElse ShownElseIf ShownIf ShownRank ShownSelect ShownSelectRank Construct Case DoConstruct Else ElseIf IfConstruct RankCase SelectCase SelectRank (λ e. e.0) (λ e. e.0) (λ e. e.0) (λ e. e.0) (λ e. e.0) (λ e. e.0) (λ e. e.0) (λ e. e.0) (λ e. e.0) y
 
-abbrev plain_SelectRank : ShownSelectRank → SelectRank-F Construct Case DoConstruct Else ElseIf IfConstruct RankCase SelectCase SelectRank
-plain_SelectRank y = map-SelectRank ((c : Construct) × IsBlock c) ((c : Case) × IsCase c) ((c : DoConstruct) × IsDo c) ((c : Else) × IsElse c) ((c : ElseIf) × IsElseIf c) ((c : IfConstruct) × IsIf c) ((c : RankCase) × IsRank c) ((c : SelectCase) × IsSelect c) ((c : SelectRank) × IsSelectRank c) Construct Case DoConstruct Else ElseIf IfConstruct RankCase SelectCase SelectRank (λ e. e.0) (λ e. e.0) (λ e. e.0) (λ e. e.0) (λ e. e.0) (λ e. e.0) (λ e. e.0) (λ e. e.0) (λ e. e.0) y
+abbrev plain_select_rank : SelectRankLayer → SelectRank-F Construct Case DoConstruct Else ElseIf IfConstruct RankCase SelectCase SelectRank
+plain_select_rank y = map-SelectRank ShownBlock ShownCase ShownDo ShownElse ShownElseIf ShownIf ShownRank ShownSelect ShownSelectRank Construct Case DoConstruct Else ElseIf IfConstruct RankCase SelectCase SelectRank (λ e. e.0) (λ e. e.0) (λ e. e.0) (λ e. e.0) (λ e. e.0) (λ e. e.0) (λ e. e.0) (λ e. e.0) (λ e. e.0) y
 
 -- ---- the parts of constructs
 
@@ -183,7 +211,7 @@ rank_is rank_choice.Default = refl
 rank_is (rank_choice.Rank e) = refl
 rank_is (rank_choice.AssumedSize p) = refl
 
-blocks_are : (xs : List ((c : Construct) × IsBlock c)) (ts : Trees) (rest : List Statement) → spell_trees (block_trees (blocks (map bare_block (map (λ x. x.0) xs))) ts) rest ≡ each (map lines_of (map (λ x. x.0) xs)) (spell_trees ts rest)
+blocks_are : (xs : List ShownBlock) (ts : Trees) (rest : List Statement) → spell_trees (block_trees (blocks (map bare_block (map (λ x. x.0) xs))) ts) rest ≡ each (map lines_of (map (λ x. x.0) xs)) (spell_trees ts rest)
 blocks_are [] ts rest = refl
 blocks_are (x ∷ xs) ts rest = x.1 (spell_trees (block_trees (blocks (map bare_block (map (λ x. x.0) xs))) ts) rest) ∙ ap (lines_of x.0) (blocks_are xs ts rest)
 
@@ -192,87 +220,84 @@ behind : (bs : Blocks) (ts : Trees) (rest : List Statement) → spell_trees (blo
 behind no_blocks ts rest = refl
 behind (block b bs) ts rest = ap (spell_tree (block_tree b)) (behind bs ts rest)
 
-else_ifs_are : (xs : List ((c : ElseIf) × IsElseIf c)) (ts : Trees) (rest : List Statement) → spell_trees (else_if_trees (else_ifs_of (map bare_else_if (map (λ x. x.0) xs))) ts) rest ≡ each (map else_if_lines (map (λ x. x.0) xs)) (spell_trees ts rest)
+else_ifs_are : (xs : List ShownElseIf) (ts : Trees) (rest : List Statement) → spell_trees (else_if_trees (else_ifs_of (map bare_else_if (map (λ x. x.0) xs))) ts) rest ≡ each (map else_if_lines (map (λ x. x.0) xs)) (spell_trees ts rest)
 else_ifs_are [] ts rest = refl
 else_ifs_are (x ∷ xs) ts rest =
     let e : Bool × Expr × Blocks = bare_else_if x.0 in
     let others : Trees = else_if_trees (else_ifs_of (map bare_else_if (map (λ x. x.0) xs))) ts in
     ap (λ (ss : List Statement). Executable (line.ElseIf e.0 e.1) ∷ ss) (behind e.2 others rest) ∙ x.1 (spell_trees others rest) ∙ ap (else_if_lines x.0) (else_ifs_are xs ts rest)
 
-otherwise_is : (x : Option ((c : Else) × IsElse c)) (ts : Trees) (rest : List Statement) → spell_trees (otherwise_trees (otherwise_of (option_map bare_else (option_map (λ x. x.0) x))) ts) rest ≡ optional (option_map else_lines (option_map (λ x. x.0) x)) (spell_trees ts rest)
+otherwise_is : (x : Option ShownElse) (ts : Trees) (rest : List Statement) → spell_trees (otherwise_trees (otherwise_of (option_map bare_else (option_map (λ x. x.0) x))) ts) rest ≡ optional (option_map else_lines (option_map (λ x. x.0) x)) (spell_trees ts rest)
 otherwise_is None ts rest = refl
 otherwise_is (Some x) ts rest = ap (λ (ss : List Statement). Executable line.Else ∷ ss) (behind (bare_else x.0) ts rest) ∙ x.1 (spell_trees ts rest)
 
-cases_are : (xs : List ((c : Case) × IsCase c)) (ts : Trees) (rest : List Statement) → spell_trees (case_trees (cases_of (map bare_case (map (λ x. x.0) xs))) ts) rest ≡ each (map case_lines (map (λ x. x.0) xs)) (spell_trees ts rest)
+cases_are : (xs : List ShownCase) (ts : Trees) (rest : List Statement) → spell_trees (case_trees (cases_of (map bare_case (map (λ x. x.0) xs))) ts) rest ≡ each (map case_lines (map (λ x. x.0) xs)) (spell_trees ts rest)
 cases_are [] ts rest = refl
 cases_are (x ∷ xs) ts rest =
     let c : Values × Blocks = bare_case x.0 in
     let others : Trees = case_trees (cases_of (map bare_case (map (λ x. x.0) xs))) ts in
     ap (λ (ss : List Statement). Executable (values_line c.0) ∷ ss) (behind c.1 others rest) ∙ x.1 (spell_trees others rest) ∙ ap (case_lines x.0) (cases_are xs ts rest)
 
-ranks_are : (xs : List ((c : RankCase) × IsRank c)) (ts : Trees) (rest : List Statement) → spell_trees (rank_trees (ranks_of (map bare_rank_part (map (λ x. x.0) xs))) ts) rest ≡ each (map rank_lines (map (λ x. x.0) xs)) (spell_trees ts rest)
+ranks_are : (xs : List ShownRank) (ts : Trees) (rest : List Statement) → spell_trees (rank_trees (ranks_of (map bare_rank_part (map (λ x. x.0) xs))) ts) rest ≡ each (map rank_lines (map (λ x. x.0) xs)) (spell_trees ts rest)
 ranks_are [] ts rest = refl
 ranks_are (x ∷ xs) ts rest =
     let r : RankOf × Blocks = bare_rank_part x.0 in
     let others : Trees = rank_trees (ranks_of (map bare_rank_part (map (λ x. x.0) xs))) ts in
     ap (λ (ss : List Statement). Executable (rank_line r.0) ∷ ss) (behind r.1 others rest) ∙ x.1 (spell_trees others rest) ∙ ap (rank_lines x.0) (ranks_are xs ts rest)
 
-abbrev block_front : Block → Front
-block_front b = spell_tree (block_tree b)
-
 -- ---- each construct, where its parts have it
 
-case_layer : (y : ShownCase) → IsCase (roll-Case (plain_Case y))
+case_layer : (y : CaseLayer) → IsCase (roll-Case (plain_case y))
 case_layer y rest =
-    ap (λ (c : Values × Blocks). case_front c rest) (fold-roll-Case Block (Values × Blocks) Block Blocks (Bool × Expr × Blocks) Block (RankOf × Blocks) Block Block statement_bare case_bare do_bare else_bare else_if_bare if_bare rank_bare select_bare select_rank_bare (plain_Case y))
+    ap (λ (c : Values × Blocks). case_front c rest) (fold-roll-Case Block (Values × Blocks) Block Blocks (Bool × Expr × Blocks) Block (RankOf × Blocks) Block Block statement_bare case_bare do_bare else_bare else_if_bare if_bare rank_bare select_bare select_rank_bare (plain_case y))
     ∙ (λ i. choice_is y.choice i ∷ blocks_are y.body no_trees rest i)
-    ∙ sym (ap (λ (f : Front). f rest) (fold-roll-Case Front Front Front Front Front Front Front Front Front statement_step case_step do_step else_step else_if_step if_step rank_step select_step select_rank_step (plain_Case y)))
+    ∙ sym (ap (λ (f : Front). f rest) (fold-roll-Case Front Front Front Front Front Front Front Front Front statement_step case_step do_step else_step else_if_step if_step rank_step select_step select_rank_step (plain_case y)))
 
-else_layer : (y : ShownElse) → IsElse (roll-Else (plain_Else y))
+else_layer : (y : ElseLayer) → IsElse (roll-Else (plain_else y))
 else_layer y rest =
-    ap (λ (c : Blocks). else_front c rest) (fold-roll-Else Block (Values × Blocks) Block Blocks (Bool × Expr × Blocks) Block (RankOf × Blocks) Block Block statement_bare case_bare do_bare else_bare else_if_bare if_bare rank_bare select_bare select_rank_bare (plain_Else y))
+    ap (λ (c : Blocks). else_front c rest) (fold-roll-Else Block (Values × Blocks) Block Blocks (Bool × Expr × Blocks) Block (RankOf × Blocks) Block Block statement_bare case_bare do_bare else_bare else_if_bare if_bare rank_bare select_bare select_rank_bare (plain_else y))
     ∙ ap (λ (ss : List Statement). Executable line.Else ∷ ss) (blocks_are y.body no_trees rest)
-    ∙ sym (ap (λ (f : Front). f rest) (fold-roll-Else Front Front Front Front Front Front Front Front Front statement_step case_step do_step else_step else_if_step if_step rank_step select_step select_rank_step (plain_Else y)))
+    ∙ sym (ap (λ (f : Front). f rest) (fold-roll-Else Front Front Front Front Front Front Front Front Front statement_step case_step do_step else_step else_if_step if_step rank_step select_step select_rank_step (plain_else y)))
 
-else_if_layer : (y : ShownElseIf) → IsElseIf (roll-ElseIf (plain_ElseIf y))
+else_if_layer : (y : ElseIfLayer) → IsElseIf (roll-ElseIf (plain_else_if y))
 unfolding else_if_line
 else_if_layer y rest =
-    ap (λ (c : Bool × Expr × Blocks). else_if_front c rest) (fold-roll-ElseIf Block (Values × Blocks) Block Blocks (Bool × Expr × Blocks) Block (RankOf × Blocks) Block Block statement_bare case_bare do_bare else_bare else_if_bare if_bare rank_bare select_bare select_rank_bare (plain_ElseIf y))
+    ap (λ (c : Bool × Expr × Blocks). else_if_front c rest) (fold-roll-ElseIf Block (Values × Blocks) Block Blocks (Bool × Expr × Blocks) Block (RankOf × Blocks) Block Block statement_bare case_bare do_bare else_bare else_if_bare if_bare rank_bare select_bare select_rank_bare (plain_else_if y))
     ∙ ap (λ (ss : List Statement). else_if_line y.is_one_word y.condition ∷ ss) (blocks_are y.body no_trees rest)
-    ∙ sym (ap (λ (f : Front). f rest) (fold-roll-ElseIf Front Front Front Front Front Front Front Front Front statement_step case_step do_step else_step else_if_step if_step rank_step select_step select_rank_step (plain_ElseIf y)))
+    ∙ sym (ap (λ (f : Front). f rest) (fold-roll-ElseIf Front Front Front Front Front Front Front Front Front statement_step case_step do_step else_step else_if_step if_step rank_step select_step select_rank_step (plain_else_if y)))
 
-rank_layer : (y : ShownRankCase) → IsRank (roll-RankCase (plain_RankCase y))
+rank_layer : (y : RankLayer) → IsRank (roll-RankCase (plain_rank y))
 rank_layer y rest =
-    ap (λ (c : RankOf × Blocks). rank_front c rest) (fold-roll-RankCase Block (Values × Blocks) Block Blocks (Bool × Expr × Blocks) Block (RankOf × Blocks) Block Block statement_bare case_bare do_bare else_bare else_if_bare if_bare rank_bare select_bare select_rank_bare (plain_RankCase y))
+    ap (λ (c : RankOf × Blocks). rank_front c rest) (fold-roll-RankCase Block (Values × Blocks) Block Blocks (Bool × Expr × Blocks) Block (RankOf × Blocks) Block Block statement_bare case_bare do_bare else_bare else_if_bare if_bare rank_bare select_bare select_rank_bare (plain_rank y))
     ∙ (λ i. rank_is y.choice i ∷ blocks_are y.body no_trees rest i)
-    ∙ sym (ap (λ (f : Front). f rest) (fold-roll-RankCase Front Front Front Front Front Front Front Front Front statement_step case_step do_step else_step else_if_step if_step rank_step select_step select_rank_step (plain_RankCase y)))
+    ∙ sym (ap (λ (f : Front). f rest) (fold-roll-RankCase Front Front Front Front Front Front Front Front Front statement_step case_step do_step else_step else_if_step if_step rank_step select_step select_rank_step (plain_rank y)))
 
-do_layer : (y : ShownDoConstruct) → IsDo (roll-DoConstruct (plain_DoConstruct y))
+do_layer : (y : DoLayer) → IsDo (roll-DoConstruct (plain_do y))
 unfolding loop_line
 do_layer y rest =
-    ap (λ (c : Block). block_front c rest) (fold-roll-DoConstruct Block (Values × Blocks) Block Blocks (Bool × Expr × Blocks) Block (RankOf × Blocks) Block Block statement_bare case_bare do_bare else_bare else_if_bare if_bare rank_bare select_bare select_rank_bare (plain_DoConstruct y))
+    ap (λ (c : Block). block_front c rest) (fold-roll-DoConstruct Block (Values × Blocks) Block Blocks (Bool × Expr × Blocks) Block (RankOf × Blocks) Block Block statement_bare case_bare do_bare else_bare else_if_bare if_bare rank_bare select_bare select_rank_bare (plain_do y))
     ∙ (ap (λ (ss : List Statement). loop_line y.control ∷ ss) (blocks_are y.body no_trees (construct_end line.Do (bare_ending y.ending) ∷ rest))
     ∙ ap (λ (s : Statement). loop_line y.control ∷ each (map lines_of (map (λ x. x.0) y.body)) (s ∷ rest)) (end_is line.Do y.ending))
-    ∙ sym (ap (λ (f : Front). f rest) (fold-roll-DoConstruct Front Front Front Front Front Front Front Front Front statement_step case_step do_step else_step else_if_step if_step rank_step select_step select_rank_step (plain_DoConstruct y)))
+    ∙ sym (ap (λ (f : Front). f rest) (fold-roll-DoConstruct Front Front Front Front Front Front Front Front Front statement_step case_step do_step else_step else_if_step if_step rank_step select_step select_rank_step (plain_do y)))
 
-select_layer : (y : ShownSelectCase) → IsSelect (roll-SelectCase (plain_SelectCase y))
+select_layer : (y : SelectLayer) → IsSelect (roll-SelectCase (plain_select y))
 unfolding select_case_line
 select_layer y rest =
-    ap (λ (c : Block). block_front c rest) (fold-roll-SelectCase Block (Values × Blocks) Block Blocks (Bool × Expr × Blocks) Block (RankOf × Blocks) Block Block statement_bare case_bare do_bare else_bare else_if_bare if_bare rank_bare select_bare select_rank_bare (plain_SelectCase y))
+    ap (λ (c : Block). block_front c rest) (fold-roll-SelectCase Block (Values × Blocks) Block Blocks (Bool × Expr × Blocks) Block (RankOf × Blocks) Block Block statement_bare case_bare do_bare else_bare else_if_bare if_bare rank_bare select_bare select_rank_bare (plain_select y))
     ∙ (ap (λ (ss : List Statement). select_case_line y.is_one_word y.selector ∷ ss) (cases_are y.cases no_trees (construct_end line.Select (bare_ending y.ending) ∷ rest))
     ∙ ap (λ (s : Statement). select_case_line y.is_one_word y.selector ∷ each (map case_lines (map (λ x. x.0) y.cases)) (s ∷ rest)) (end_is line.Select y.ending))
-    ∙ sym (ap (λ (f : Front). f rest) (fold-roll-SelectCase Front Front Front Front Front Front Front Front Front statement_step case_step do_step else_step else_if_step if_step rank_step select_step select_rank_step (plain_SelectCase y)))
+    ∙ sym (ap (λ (f : Front). f rest) (fold-roll-SelectCase Front Front Front Front Front Front Front Front Front statement_step case_step do_step else_step else_if_step if_step rank_step select_step select_rank_step (plain_select y)))
 
-select_rank_layer : (y : ShownSelectRank) → IsSelectRank (roll-SelectRank (plain_SelectRank y))
+select_rank_layer : (y : SelectRankLayer) → IsSelectRank (roll-SelectRank (plain_select_rank y))
 unfolding select_rank_line
 select_rank_layer y rest =
-    ap (λ (c : Block). block_front c rest) (fold-roll-SelectRank Block (Values × Blocks) Block Blocks (Bool × Expr × Blocks) Block (RankOf × Blocks) Block Block statement_bare case_bare do_bare else_bare else_if_bare if_bare rank_bare select_bare select_rank_bare (plain_SelectRank y))
+    ap (λ (c : Block). block_front c rest) (fold-roll-SelectRank Block (Values × Blocks) Block Blocks (Bool × Expr × Blocks) Block (RankOf × Blocks) Block Block statement_bare case_bare do_bare else_bare else_if_bare if_bare rank_bare select_bare select_rank_bare (plain_select_rank y))
     ∙ (ap (λ (ss : List Statement). select_rank_line y.renamed y.selector ∷ ss) (ranks_are y.ranks no_trees (construct_end line.Select (bare_ending y.ending) ∷ rest))
     ∙ ap (λ (s : Statement). select_rank_line y.renamed y.selector ∷ each (map rank_lines (map (λ x. x.0) y.ranks)) (s ∷ rest)) (end_is line.Select y.ending))
-    ∙ sym (ap (λ (f : Front). f rest) (fold-roll-SelectRank Front Front Front Front Front Front Front Front Front statement_step case_step do_step else_step else_if_step if_step rank_step select_step select_rank_step (plain_SelectRank y)))
+    ∙ sym (ap (λ (f : Front). f rest) (fold-roll-SelectRank Front Front Front Front Front Front Front Front Front statement_step case_step do_step else_step else_if_step if_step rank_step select_step select_rank_step (plain_select_rank y)))
 
 -- what stands inside of an IF construct, and its end
-if_inside : (body : List ((c : Construct) × IsBlock c)) (elses : List ((c : ElseIf) × IsElseIf c)) (other : Option ((c : Else) × IsElse c)) (e : Ending) (rest : List Statement) →
+if_inside : (body : List ShownBlock) (elses : List ShownElseIf) (other : Option ShownElse) (e : Ending) (rest : List Statement) →
     spell_trees (block_trees (blocks (map bare_block (map (λ x. x.0) body))) (else_if_trees (else_ifs_of (map bare_else_if (map (λ x. x.0) elses))) (otherwise_trees (otherwise_of (option_map bare_else (option_map (λ x. x.0) other))) no_trees))) (construct_end line.If (bare_ending e) ∷ rest)
     ≡ each (map lines_of (map (λ x. x.0) body)) (each (map else_if_lines (map (λ x. x.0) elses)) (optional (option_map else_lines (option_map (λ x. x.0) other)) (end_line line.If e ∷ rest)))
 if_inside body elses other e rest =
@@ -283,25 +308,27 @@ if_inside body elses other e rest =
     ∙ ap (each (map lines_of (map (λ x. x.0) body))) (else_ifs_are elses last ss ∙ ap (each (map else_if_lines (map (λ x. x.0) elses))) (otherwise_is other no_trees ss
     ∙ ap (λ (s : Statement). optional (option_map else_lines (option_map (λ x. x.0) other)) (s ∷ rest)) (end_is line.If e)))
 
-if_layer : (y : ShownIfConstruct) → IsIf (roll-IfConstruct (plain_IfConstruct y))
+if_layer : (y : IfLayer) → IsIf (roll-IfConstruct (plain_if y))
 unfolding if_line
 if_layer y rest = shown y.otherwise
   where
-    with_other : Option ((c : Else) × IsElse c) → ShownIfConstruct
+    with_other : Option ShownElse → IfLayer
     with_other other = record { place = y.place; condition = y.condition; body = y.body; else_ifs = y.else_ifs; otherwise = other; ending = y.ending }
 
-    inside : (other : Option ((c : Else) × IsElse c)) → block_front (if_bare (map-IfConstruct Construct Case DoConstruct Else ElseIf IfConstruct RankCase SelectCase SelectRank Block (Values × Blocks) Block Blocks (Bool × Expr × Blocks) Block (RankOf × Blocks) Block Block bare_block bare_case bare_do bare_else bare_else_if bare_if bare_rank_part bare_select bare_select_rank (plain_IfConstruct (with_other other)))) rest
-        ≡ if_step (map-IfConstruct Construct Case DoConstruct Else ElseIf IfConstruct RankCase SelectCase SelectRank Front Front Front Front Front Front Front Front Front lines_of case_lines do_lines else_lines else_if_lines if_lines rank_lines select_lines select_rank_lines (plain_IfConstruct (with_other other))) rest
+    inside : (other : Option ShownElse) → block_front (if_bare (map-IfConstruct Construct Case DoConstruct Else ElseIf IfConstruct RankCase SelectCase SelectRank Block (Values × Blocks) Block Blocks (Bool × Expr × Blocks) Block (RankOf × Blocks) Block Block bare_block bare_case bare_do bare_else bare_else_if bare_if bare_rank_part bare_select bare_select_rank (plain_if (with_other other)))) rest
+        ≡ if_step (map-IfConstruct Construct Case DoConstruct Else ElseIf IfConstruct RankCase SelectCase SelectRank Front Front Front Front Front Front Front Front Front lines_of case_lines do_lines else_lines else_if_lines if_lines rank_lines select_lines select_rank_lines (plain_if (with_other other))) rest
     inside None = ap (λ (ss : List Statement). if_line y.condition ∷ ss) (if_inside y.body y.else_ifs None y.ending rest)
     inside (Some x) = ap (λ (ss : List Statement). if_line y.condition ∷ ss) (if_inside y.body y.else_ifs (Some x) y.ending rest)
 
-    shown : (other : Option ((c : Else) × IsElse c)) → block_front (bare_if (roll-IfConstruct (plain_IfConstruct (with_other other)))) rest ≡ if_lines (roll-IfConstruct (plain_IfConstruct (with_other other))) rest
+    shown : (other : Option ShownElse) → block_front (bare_if (roll-IfConstruct (plain_if (with_other other)))) rest ≡ if_lines (roll-IfConstruct (plain_if (with_other other))) rest
     shown other =
-        ap (λ (c : Block). block_front c rest) (fold-roll-IfConstruct Block (Values × Blocks) Block Blocks (Bool × Expr × Blocks) Block (RankOf × Blocks) Block Block statement_bare case_bare do_bare else_bare else_if_bare if_bare rank_bare select_bare select_rank_bare (plain_IfConstruct (with_other other)))
+        ap (λ (c : Block). block_front c rest) (fold-roll-IfConstruct Block (Values × Blocks) Block Blocks (Bool × Expr × Blocks) Block (RankOf × Blocks) Block Block statement_bare case_bare do_bare else_bare else_if_bare if_bare rank_bare select_bare select_rank_bare (plain_if (with_other other)))
         ∙ inside other
-        ∙ sym (ap (λ (f : Front). f rest) (fold-roll-IfConstruct Front Front Front Front Front Front Front Front Front statement_step case_step do_step else_step else_if_step if_step rank_step select_step select_rank_step (plain_IfConstruct (with_other other))))
+        ∙ sym (ap (λ (f : Front). f rest) (fold-roll-IfConstruct Front Front Front Front Front Front Front Front Front statement_step case_step do_step else_step else_if_step if_step rank_step select_step select_rank_step (plain_if (with_other other))))
 
-block_step : (y : ShownStatement) (rest : List Statement) → block_front (statement_bare (map-Statement Construct Case DoConstruct Else ElseIf IfConstruct RankCase SelectCase SelectRank Block (Values × Blocks) Block Blocks (Bool × Expr × Blocks) Block (RankOf × Blocks) Block Block bare_block bare_case bare_do bare_else bare_else_if bare_if bare_rank_part bare_select bare_select_rank (plain_Statement y))) rest ≡ statement_step (map-Statement Construct Case DoConstruct Else ElseIf IfConstruct RankCase SelectCase SelectRank Front Front Front Front Front Front Front Front Front lines_of case_lines do_lines else_lines else_if_lines if_lines rank_lines select_lines select_rank_lines (plain_Statement y)) rest
+block_step : (y : BlockLayer) (rest : List Statement) →
+    block_front (statement_bare (map-Statement Construct Case DoConstruct Else ElseIf IfConstruct RankCase SelectCase SelectRank Block (Values × Blocks) Block Blocks (Bool × Expr × Blocks) Block (RankOf × Blocks) Block Block bare_block bare_case bare_do bare_else bare_else_if bare_if bare_rank_part bare_select bare_select_rank (plain_block y))) rest
+    ≡ statement_step (map-Statement Construct Case DoConstruct Else ElseIf IfConstruct RankCase SelectCase SelectRank Front Front Front Front Front Front Front Front Front lines_of case_lines do_lines else_lines else_if_lines if_lines rank_lines select_lines select_rank_lines (plain_block y)) rest
 unfolding action_line guarded_line
 block_step (open_.Action a) rest = refl
 block_step (open_.IfAction p condition a) rest = refl
@@ -310,11 +337,11 @@ block_step (open_.Do c) rest = c.1 rest
 block_step (open_.SelectCase c) rest = c.1 rest
 block_step (open_.SelectRank c) rest = c.1 rest
 
-block_layer : (y : ShownStatement) → IsBlock (roll-Statement (plain_Statement y))
+block_layer : (y : BlockLayer) → IsBlock (roll-Statement (plain_block y))
 block_layer y rest =
-    ap (λ (b : Block). block_front b rest) (fold-roll-Statement Block (Values × Blocks) Block Blocks (Bool × Expr × Blocks) Block (RankOf × Blocks) Block Block statement_bare case_bare do_bare else_bare else_if_bare if_bare rank_bare select_bare select_rank_bare (plain_Statement y))
+    ap (λ (b : Block). block_front b rest) (fold-roll-Statement Block (Values × Blocks) Block Blocks (Bool × Expr × Blocks) Block (RankOf × Blocks) Block Block statement_bare case_bare do_bare else_bare else_if_bare if_bare rank_bare select_bare select_rank_bare (plain_block y))
     ∙ block_step y rest
-    ∙ sym (ap (λ (f : Front). f rest) (fold-roll-Statement Front Front Front Front Front Front Front Front Front statement_step case_step do_step else_step else_if_step if_step rank_step select_step select_rank_step (plain_Statement y)))
+    ∙ sym (ap (λ (f : Front). f rest) (fold-roll-Statement Front Front Front Front Front Front Front Front Front statement_step case_step do_step else_step else_if_step if_step rank_step select_step select_rank_step (plain_block y)))
 
 -- the statements of an action statement or a construct are those of its tree
 pub block_spelled : (c : Construct) → IsBlock c

@@ -1,7 +1,7 @@
 -- The derivation of a file's statements is the one that its units say, and tells them.
 use Rattle.std.proofs.Common.{◌≡◌, List, [], sym, ap, subst, ◌∙◌}
 use Rattle.f_tree.specs.declared.unit.Unit.{Unit as UnitTree}
-use Rattle.f_unit_grammar.specs.Units.{File, Trees, IsFile, spell_trees}
+use Rattle.f_unit_grammar.specs.Units.{File, IsFile, spell_trees}
 use Rattle.f_unit_parts.specs.Units.{units_of}
 use Rattle.f_unit_laws.specs.Shapes.{bare_units}
 use Rattle.f_unit_laws.specs.Derivations.{derivation}

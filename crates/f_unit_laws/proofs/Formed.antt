@@ -1,8 +1,8 @@
 -- Trees whose statements are of the sorts of their places are told by their statements, and the trees of a file are such.
 use Rattle.std.proofs.Common.{◌≡◌, ℕ, ◌+◌, List, [], ◌∷◌, refl, sym, ap, subst, ◌∙◌}
 use Rattle.f_statement_grammar.specs.Statements.{Statement}
-use Rattle.f_unit_grammar.specs.Units.{State, File, counts, Tree, single, nested, Trees, no_trees, tree, spell_tree, spell_trees, Stands, StandAll}
-use Rattle.f_unit_laws.proofs.Sorts.{Sort, Stays, Enters, Leaves, sort_of, is_executable, is_construct, when_stays, when_enters, when_leaves}
+use Rattle.f_unit_grammar.specs.Units.{State, counts, Tree, single, nested, Trees, no_trees, tree, spell_tree, spell_trees, Stands, StandAll}
+use Rattle.f_unit_laws.proofs.Sorts.{Stays, Enters, Leaves, sort_of, is_executable, is_construct, when_stays, when_enters, when_leaves}
 
 -- each statement is of the sort of its place
 abbrev mutual

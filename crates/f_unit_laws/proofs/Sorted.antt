@@ -108,7 +108,7 @@ mutual
   specification_formed : (s : Specification) (ts : Trees) → AreFormed ts → AreFormed (specification_trees s ts)
   specification_formed (specification uses import implicit ds) ts f =
       uses_formed uses (import_trees import (implicit_trees implicit (declaration_trees ds ts))) (import_formed import (implicit_trees implicit (declaration_trees ds ts))
-          (implicit_formed implicit (declaration_trees ds ts) (declarations_formed ds ts f)))
+      (implicit_formed implicit (declaration_trees ds ts) (declarations_formed ds ts f)))
 
 procedure_formed : (p : Procedure) → IsFormed (procedure_tree p)
 procedure_formed (procedure h s body ending) = (head_enters h, specification_formed s (block_trees body no_trees) (blocks_formed body no_trees tt), procedure_ends h ending)

@@ -1,6 +1,6 @@
 -- Whether a statement begins something, ends something or stands alone is told by the statement itself, and a construct has executable statements at its
 -- both ends.
-use Rattle.std.proofs.Common.{◌≡◌, ℕ, List, [], ◌∷◌, Option, Some, None, Bool, true, false, refl, sym, ap, ◌∙◌}
+use Rattle.std.proofs.Common.{◌≡◌, ℕ, List, Bool, true, false, refl, sym, ap, ◌∙◌}
 use Rattle.std.specs.Prelude.{◌&&◌}
 use Rattle.f_line_grammar.specs.Lines as line
 use Rattle.f_line_grammar.specs.Lines.{Line}

@@ -1,5 +1,5 @@
 -- The statements of a specification are those of its trees of statements.
-use Rattle.std.proofs.Common.{◌≡◌, ℕ, List, [], ◌∷◌, Option, Some, None, Bool, true, false, map, refl, sym, ap, subst, ◌∙◌}
+use Rattle.std.proofs.Common.{◌≡◌, List, [], ◌∷◌, Option, Some, None, Bool, true, false, map, refl, sym, ap, subst, ◌∙◌}
 use Rattle.std.specs.Prelude.{is_some}
 use Rattle.std.specs.Option.{option_map}
 use Rattle.jf_base.specs.declared.place.Place.{Place}
@@ -16,22 +16,22 @@ use Rattle.f_tree.specs.declared.declaration.Import.{Import as ImportTree}
 use Rattle.f_tree.specs.declared.declaration.Field.{Field as FieldTree}
 use Rattle.f_tree.specs.declared.declaration.Component.{Component as ComponentTree}
 use Rattle.f_tree.specs.declared.declaration.DerivedType.{DerivedType as DerivedTypeTree}
-use Rattle.f_tree.specs.declared.declaration.Declaration.{Declaration as DeclarationTree, fold-Declaration, map-Declaration, ind-Declaration, roll-Declaration, fold-roll-Declaration}
+use Rattle.f_tree.specs.declared.declaration.Declaration.{Declaration as DeclarationTree, fold-Declaration, map-Declaration, roll-Declaration, fold-roll-Declaration}
 use Rattle.f_tree.specs.declared.declaration.Declaration.TheOpen as open_
 use Rattle.f_tree.specs.declared.declaration.Declaration.TheOpen.{Declaration-F, Interface-F, InterfaceBody-F, Specification-F}
-use Rattle.f_tree.specs.declared.declaration.Declaration.TheFolds.{fold-Interface, fold-InterfaceBody, fold-Specification, map-Interface, map-InterfaceBody, map-Specification, fold-roll-Interface, fold-roll-InterfaceBody, fold-roll-Specification, ind-Specification}
+use Rattle.f_tree.specs.declared.declaration.Declaration.TheFolds.{fold-Interface, fold-InterfaceBody, map-Interface, map-InterfaceBody, map-Specification, fold-roll-Interface, fold-roll-InterfaceBody, fold-roll-Specification, ind-Specification}
 use Rattle.f_tree.specs.declared.declaration.Declaration.TheViews.{roll-Interface, roll-InterfaceBody, roll-Specification}
 use Rattle.f_tree.specs.declared.declaration.Interface.{Interface}
 use Rattle.f_tree.specs.declared.declaration.InterfaceBody.{InterfaceBody}
 use Rattle.f_tree.specs.declared.declaration.Specification.{Specification as SpecificationTree}
 use Rattle.f_declaration_grammar.specs.Declarations as grammar
-use Rattle.f_statement_grammar.specs.Statements.{Statement, Executable, Declaring}
+use Rattle.f_statement_grammar.specs.Statements.{Statement, Declaring}
 use Rattle.f_unit_grammar.specs.Units.{Trees, no_trees, spell_tree, spell_trees}
 use Rattle.f_expr_read.specs.Views.{view_type}
-use Rattle.f_declared.specs.Views.{view_name, view_dimension, view_dimensions}
+use Rattle.f_declared.specs.Views.{view_name, view_dimensions}
 use Rattle.f_construct_parts.specs.Lines.{Front, each, optional}
-use Rattle.f_unit_parts.specs.Units.{use_line, import_line, variables_line, access_line, pointers_line, type_line, interface_line, head_line as head_statement, dimension_of as dimension_attribute, view_field, component_line, ended, end_line, word_of, use_lines, uses_of, import_lines, implicit_lines, component_lines, components_of, derived_type_lines, declaration_step, interface_step, body_step, specification_step, declaration_lines, interface_lines, body_lines, specification_lines}
-use Rattle.f_unit_laws.specs.Shapes.{Close, close, bare_ending, Head, Use, used, Import, imported, Field, field, Component, Declaration, Declarations, no_declarations, declaration, declarations, Bodies, bodies_of as bodies, Specification, specification, bare_head, bare_use, bare_import, bare_field, bare_component, derived_type_bare, declaration_bare, interface_bare, body_bare, specification_bare, bare_specification}
+use Rattle.f_unit_parts.specs.Units.{use_line, import_line, variables_line, access_line, pointers_line, type_line, interface_line, head_line as head_statement, dimension_of as dimension_attribute, view_field, component_line, ended, end_line, word_of, use_lines, uses_of, import_lines, implicit_lines, components_of, derived_type_lines, declaration_step, interface_step, body_step, specification_step, declaration_lines, interface_lines, body_lines, specification_lines}
+use Rattle.f_unit_laws.specs.Shapes.{Close, close, bare_ending, Head, Use, used, Import, imported, Declaration, Declarations, no_declarations, declaration, declarations, bodies_of as bodies, Specification, specification, bare_head, bare_use, bare_import, bare_field, bare_component, derived_type_bare, declaration_bare, interface_bare, body_bare, specification_bare, bare_specification}
 use Rattle.f_unit_laws.specs.Derivations.{unit_end, head_line, procedure_end, use_trees, import_trees, implicit_trees, dimension_of, field_entity, component_trees, declaration_tree, declaration_trees, body_trees, specification_trees}
 
 -- ---- each declaration without its places, and its statements
@@ -68,31 +68,44 @@ IsBody b = (rest : List Statement) → body_front (bare_body b) rest ≡ body_li
 abbrev IsSpecification : SpecificationTree → Type 0
 IsSpecification s = (rest : List Statement) → specification_front (bare_specification s) rest ≡ specification_lines s rest
 
--- a layer whose parts each have a proof
+-- a declaration with its proof
 abbrev ShownDeclaration : Type 0
-ShownDeclaration = Declaration-F ((d : DeclarationTree) × IsDeclaration d) ((i : Interface) × IsInterface i) ((b : InterfaceBody) × IsBody b) ((s : SpecificationTree) × IsSpecification s)
+ShownDeclaration = (d : DeclarationTree) × IsDeclaration d
 
 abbrev ShownInterface : Type 0
-ShownInterface = Interface-F ((d : DeclarationTree) × IsDeclaration d) ((i : Interface) × IsInterface i) ((b : InterfaceBody) × IsBody b) ((s : SpecificationTree) × IsSpecification s)
+ShownInterface = (i : Interface) × IsInterface i
 
 abbrev ShownBody : Type 0
-ShownBody = InterfaceBody-F ((d : DeclarationTree) × IsDeclaration d) ((i : Interface) × IsInterface i) ((b : InterfaceBody) × IsBody b) ((s : SpecificationTree) × IsSpecification s)
+ShownBody = (b : InterfaceBody) × IsBody b
 
 abbrev ShownSpecification : Type 0
-ShownSpecification = Specification-F ((d : DeclarationTree) × IsDeclaration d) ((i : Interface) × IsInterface i) ((b : InterfaceBody) × IsBody b) ((s : SpecificationTree) × IsSpecification s)
+ShownSpecification = (s : SpecificationTree) × IsSpecification s
+
+-- a layer whose parts each have a proof
+abbrev DeclarationLayer : Type 0
+DeclarationLayer = Declaration-F ShownDeclaration ShownInterface ShownBody ShownSpecification
+
+abbrev InterfaceLayer : Type 0
+InterfaceLayer = Interface-F ShownDeclaration ShownInterface ShownBody ShownSpecification
+
+abbrev BodyLayer : Type 0
+BodyLayer = InterfaceBody-F ShownDeclaration ShownInterface ShownBody ShownSpecification
+
+abbrev SpecificationLayer : Type 0
+SpecificationLayer = Specification-F ShownDeclaration ShownInterface ShownBody ShownSpecification
 
 -- the value of a layer, without the proofs
-abbrev plain_declaration : ShownDeclaration → Declaration-F DeclarationTree Interface InterfaceBody SpecificationTree
-plain_declaration y = map-Declaration ((d : DeclarationTree) × IsDeclaration d) ((i : Interface) × IsInterface i) ((b : InterfaceBody) × IsBody b) ((s : SpecificationTree) × IsSpecification s) DeclarationTree Interface InterfaceBody SpecificationTree (λ e. e.0) (λ e. e.0) (λ e. e.0) (λ e. e.0) y
+abbrev plain_declaration : DeclarationLayer → Declaration-F DeclarationTree Interface InterfaceBody SpecificationTree
+plain_declaration y = map-Declaration ShownDeclaration ShownInterface ShownBody ShownSpecification DeclarationTree Interface InterfaceBody SpecificationTree (λ e. e.0) (λ e. e.0) (λ e. e.0) (λ e. e.0) y
 
-abbrev plain_interface : ShownInterface → Interface-F DeclarationTree Interface InterfaceBody SpecificationTree
-plain_interface y = map-Interface ((d : DeclarationTree) × IsDeclaration d) ((i : Interface) × IsInterface i) ((b : InterfaceBody) × IsBody b) ((s : SpecificationTree) × IsSpecification s) DeclarationTree Interface InterfaceBody SpecificationTree (λ e. e.0) (λ e. e.0) (λ e. e.0) (λ e. e.0) y
+abbrev plain_interface : InterfaceLayer → Interface-F DeclarationTree Interface InterfaceBody SpecificationTree
+plain_interface y = map-Interface ShownDeclaration ShownInterface ShownBody ShownSpecification DeclarationTree Interface InterfaceBody SpecificationTree (λ e. e.0) (λ e. e.0) (λ e. e.0) (λ e. e.0) y
 
-abbrev plain_body : ShownBody → InterfaceBody-F DeclarationTree Interface InterfaceBody SpecificationTree
-plain_body y = map-InterfaceBody ((d : DeclarationTree) × IsDeclaration d) ((i : Interface) × IsInterface i) ((b : InterfaceBody) × IsBody b) ((s : SpecificationTree) × IsSpecification s) DeclarationTree Interface InterfaceBody SpecificationTree (λ e. e.0) (λ e. e.0) (λ e. e.0) (λ e. e.0) y
+abbrev plain_body : BodyLayer → InterfaceBody-F DeclarationTree Interface InterfaceBody SpecificationTree
+plain_body y = map-InterfaceBody ShownDeclaration ShownInterface ShownBody ShownSpecification DeclarationTree Interface InterfaceBody SpecificationTree (λ e. e.0) (λ e. e.0) (λ e. e.0) (λ e. e.0) y
 
-abbrev plain_specification : ShownSpecification → Specification-F DeclarationTree Interface InterfaceBody SpecificationTree
-plain_specification y = map-Specification ((d : DeclarationTree) × IsDeclaration d) ((i : Interface) × IsInterface i) ((b : InterfaceBody) × IsBody b) ((s : SpecificationTree) × IsSpecification s) DeclarationTree Interface InterfaceBody SpecificationTree (λ e. e.0) (λ e. e.0) (λ e. e.0) (λ e. e.0) y
+abbrev plain_specification : SpecificationLayer → Specification-F DeclarationTree Interface InterfaceBody SpecificationTree
+plain_specification y = map-Specification ShownDeclaration ShownInterface ShownBody ShownSpecification DeclarationTree Interface InterfaceBody SpecificationTree (λ e. e.0) (λ e. e.0) (λ e. e.0) (λ e. e.0) y
 
 -- ---- the parts of specifications
 
@@ -153,30 +166,30 @@ implicit_is : (p : Option Place) (ts : Trees) (rest : List Statement) → spell_
 implicit_is None ts rest = refl
 implicit_is (Some p) ts rest = refl
 
-declarations_are : (xs : List ((d : DeclarationTree) × IsDeclaration d)) (ts : Trees) (rest : List Statement) → spell_trees (declaration_trees (declarations (map bare_declaration (map (λ x. x.0) xs))) ts) rest ≡ each (map declaration_lines (map (λ x. x.0) xs)) (spell_trees ts rest)
+declarations_are : (xs : List ShownDeclaration) (ts : Trees) (rest : List Statement) → spell_trees (declaration_trees (declarations (map bare_declaration (map (λ x. x.0) xs))) ts) rest ≡ each (map declaration_lines (map (λ x. x.0) xs)) (spell_trees ts rest)
 declarations_are [] ts rest = refl
 declarations_are (x ∷ xs) ts rest = x.1 (spell_trees (declaration_trees (declarations (map bare_declaration (map (λ x. x.0) xs))) ts) rest) ∙ ap (declaration_lines x.0) (declarations_are xs ts rest)
 
-bodies_are : (xs : List ((b : InterfaceBody) × IsBody b)) (rest : List Statement) → spell_trees (body_trees (bodies (map bare_body (map (λ x. x.0) xs)))) rest ≡ each (map body_lines (map (λ x. x.0) xs)) rest
+bodies_are : (xs : List ShownBody) (rest : List Statement) → spell_trees (body_trees (bodies (map bare_body (map (λ x. x.0) xs)))) rest ≡ each (map body_lines (map (λ x. x.0) xs)) rest
 bodies_are [] rest = refl
 bodies_are (x ∷ xs) rest = x.1 (spell_trees (body_trees (bodies (map bare_body (map (λ x. x.0) xs)))) rest) ∙ ap (body_lines x.0) (bodies_are xs rest)
 
 -- ---- each declaration, where its parts have it
 
-interface_layer : (y : ShownInterface) → IsInterface (roll-Interface (plain_interface y))
+interface_layer : (y : InterfaceLayer) → IsInterface (roll-Interface (plain_interface y))
 interface_layer y rest =
     ap (λ (d : Declaration). declaration_front d rest) (fold-roll-Interface Declaration Declaration (Head × Specification × Close) Specification declaration_bare interface_bare body_bare specification_bare (plain_interface y))
     ∙ ap (λ (ss : List Statement). interface_line y.is_abstract ∷ ss) (bodies_are y.bodies (unit_end grammar.OfInterface (bare_ending y.ending) ∷ rest)
     ∙ ap (λ (s : Statement). each (map body_lines (map (λ x. x.0) y.bodies)) (s ∷ rest)) (end_is grammar.OfInterface y.ending))
     ∙ sym (ap (λ (f : Front). f rest) (fold-roll-Interface Front Front Front Front declaration_step interface_step body_step specification_step (plain_interface y)))
 
-body_layer : (y : ShownBody) → IsBody (roll-InterfaceBody (plain_body y))
+body_layer : (y : BodyLayer) → IsBody (roll-InterfaceBody (plain_body y))
 body_layer y rest =
     ap (λ (b : Head × Specification × Close). body_front b rest) (fold-roll-InterfaceBody Declaration Declaration (Head × Specification × Close) Specification declaration_bare interface_bare body_bare specification_bare (plain_body y))
     ∙ (λ i. head_is y.head i ∷ y.specification.1 (procedure_end_is y.head y.ending i ∷ rest) i)
     ∙ sym (ap (λ (f : Front). f rest) (fold-roll-InterfaceBody Front Front Front Front declaration_step interface_step body_step specification_step (plain_body y)))
 
-specification_layer : (y : ShownSpecification) → IsSpecification (roll-Specification (plain_specification y))
+specification_layer : (y : SpecificationLayer) → IsSpecification (roll-Specification (plain_specification y))
 specification_layer y rest =
     let ds : Trees = declaration_trees (declarations (map bare_declaration (map (λ x. x.0) y.declarations))) no_trees in
     let implicit : Trees = implicit_trees (is_some y.implicit_none) ds in
@@ -187,7 +200,7 @@ specification_layer y rest =
     ∙ ap (optional (option_map implicit_lines y.implicit_none)) (declarations_are y.declarations no_trees rest)))
     ∙ sym (ap (λ (f : Front). f rest) (fold-roll-Specification Front Front Front Front declaration_step interface_step body_step specification_step (plain_specification y)))
 
-declaration_at : (y : ShownDeclaration) (rest : List Statement) →
+declaration_at : (y : DeclarationLayer) (rest : List Statement) →
     declaration_front (declaration_bare (map-Declaration DeclarationTree Interface InterfaceBody SpecificationTree Declaration Declaration (Head × Specification × Close) Specification bare_declaration bare_interface bare_body bare_specification (plain_declaration y))) rest
     ≡ declaration_step (map-Declaration DeclarationTree Interface InterfaceBody SpecificationTree Front Front Front Front declaration_lines interface_lines body_lines specification_lines (plain_declaration y)) rest
 unfolding variables_line access_line pointers_line
@@ -198,7 +211,7 @@ declaration_at (open_.Access a) rest = refl
 declaration_at (open_.Save p) rest = refl
 declaration_at (open_.ProcedurePointers p) rest = refl
 
-declaration_layer : (y : ShownDeclaration) → IsDeclaration (roll-Declaration (plain_declaration y))
+declaration_layer : (y : DeclarationLayer) → IsDeclaration (roll-Declaration (plain_declaration y))
 declaration_layer y rest =
     ap (λ (d : Declaration). declaration_front d rest) (fold-roll-Declaration Declaration Declaration (Head × Specification × Close) Specification declaration_bare interface_bare body_bare specification_bare (plain_declaration y))
     ∙ declaration_at y rest

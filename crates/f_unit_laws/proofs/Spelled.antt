@@ -1,5 +1,5 @@
 -- The statements of a file's units are those of their trees of statements.
-use Rattle.std.proofs.Common.{◌≡◌, ℕ, List, [], ◌∷◌, Option, Some, None, map, refl, sym, ap, ◌∙◌}
+use Rattle.std.proofs.Common.{◌≡◌, List, [], ◌∷◌, Option, Some, None, map, refl, ap, ◌∙◌}
 use Rattle.std.specs.Option.{option_map}
 use Rattle.f_tree.specs.declared.unit.Procedure.{Procedure}
 use Rattle.f_tree.specs.declared.unit.Program.{Program}
@@ -7,15 +7,14 @@ use Rattle.f_tree.specs.declared.unit.Module.{Module}
 use Rattle.f_tree.specs.declared.unit.Unit.{Unit as ProgramUnit}
 use Rattle.f_tree.specs.declared.unit.Unit.TheVariants as unit_form
 use Rattle.f_tree.specs.declared.statement.Statement.{Statement as Construct}
-use Rattle.f_tree.specs.declared.declaration.Ending.{Ending}
 use Rattle.f_tree.specs.declared.declaration.Specification.{Specification}
 use Rattle.f_declaration_grammar.specs.Declarations as grammar
 use Rattle.f_statement_grammar.specs.Statements.{Statement}
-use Rattle.f_unit_grammar.specs.Units.{Trees, no_trees, spell_tree, spell_trees}
+use Rattle.f_unit_grammar.specs.Units.{no_trees, spell_tree, spell_trees}
 use Rattle.f_construct_parts.specs.Lines.{optional, blocks_of}
-use Rattle.f_unit_parts.specs.Units.{program_line, module_line, contains_line, head_line as head_statement, end_line, word_of, specification_lines, procedure_lines, procedures_of, program_lines, contained_lines, module_lines, unit_lines, units_of}
-use Rattle.f_unit_laws.specs.Shapes.{bare_ending, bare_head, bare_blocks, bare_specification, bare_procedure, bare_unit, bare_units}
-use Rattle.f_unit_laws.specs.Derivations.{unit_end, head_line, procedure_end, block_trees, specification_trees, procedure_tree, procedure_trees, contained_trees, unit_tree, unit_trees, derivation}
+use Rattle.f_unit_parts.specs.Units.{program_line, module_line, contains_line, specification_lines, procedure_lines, procedures_of, program_lines, contained_lines, module_lines, unit_lines, units_of}
+use Rattle.f_unit_laws.specs.Shapes.{bare_ending, bare_blocks, bare_specification, bare_procedure, bare_unit}
+use Rattle.f_unit_laws.specs.Derivations.{unit_end, block_trees, specification_trees, procedure_tree, procedure_trees, contained_trees, unit_tree, derivation}
 use Rattle.f_unit_laws.proofs.Constructs.{blocks_spelled}
 use Rattle.f_unit_laws.proofs.Specifications.{end_is, head_is, procedure_end_is, specification_spelled}
 

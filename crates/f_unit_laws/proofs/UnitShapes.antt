@@ -1,13 +1,12 @@
 -- The trees of a unit's statements tell the unit.
-use Rattle.std.proofs.Common.{◌≡◌, ℕ, List, [], ◌∷◌, Option, Some, None, Bool, true, false, map, refl, sym, ap, ◌∙◌}
-use Rattle.f_line_grammar.specs.Lines as line
+use Rattle.std.proofs.Common.{◌≡◌, ℕ, List, [], ◌∷◌, Option, Some, None, Bool, true, false, map, refl, ap, ◌∙◌}
 use Rattle.f_declaration_grammar.specs.Declarations as grammar
 use Rattle.f_declaration_grammar.specs.Declarations.{Dim}
-use Rattle.f_statement_grammar.specs.Statements.{Statement, Executable, Declaring}
-use Rattle.f_unit_grammar.specs.Units.{Tree, single, nested, Trees, no_trees, tree}
+use Rattle.f_statement_grammar.specs.Statements.{Declaring}
+use Rattle.f_unit_grammar.specs.Units.{single, nested, Trees, no_trees, tree}
 use Rattle.f_unit_laws.specs.Shapes as shape
 use Rattle.f_unit_laws.specs.Shapes.{Close, close, Block, Blocks, no_blocks, block, Head, head, Use, used, Import, imported, Field, field, Component, component, Declaration, Declarations, no_declarations, declaration, Bodies, no_bodies, body_of, Specification, specification, Procedure, procedure, ProgramUnit}
-use Rattle.f_unit_laws.specs.Derivations.{unit_end, head_line, procedure_end, stated, block_tree, block_trees, dimension_of, field_entity, use_trees, import_trees, implicit_trees, component_trees, declaration_tree, declaration_trees, body_trees, specification_trees, procedure_tree, procedure_trees, contained_trees, unit_tree, unit_trees}
+use Rattle.f_unit_laws.specs.Derivations.{head_line, procedure_end, stated, block_tree, block_trees, dimension_of, field_entity, use_trees, import_trees, implicit_trees, component_trees, declaration_tree, declaration_trees, body_trees, specification_trees, procedure_tree, procedure_trees, contained_trees, unit_tree, unit_trees}
 use Rattle.f_unit_laws.proofs.Sorts.{is_executable}
 use Rattle.f_unit_laws.proofs.Formed.{IsMatched, AreMatched}
 use Rattle.f_unit_laws.proofs.BlockShapes.{closing, unit_closes, blocks_from, over_blocks, blocks_back}
@@ -165,10 +164,11 @@ nothing_behind = record { uses = refl; import = refl; implicit = refl; declared 
 
 body_behind : (bs : Blocks) → IsBehind (block_trees bs no_trees)
 body_behind bs = record {
-    uses = over_blocks uses_from no_uses_in bs no_trees;
-    import = over_blocks import_from no_import_in bs no_trees;
-    implicit = over_blocks implicit_from no_implicit_in bs no_trees;
-    declared = over_blocks declarations_from no_declarations_in bs no_trees }
+  uses = over_blocks uses_from no_uses_in bs no_trees;
+  import = over_blocks import_from no_import_in bs no_trees;
+  implicit = over_blocks implicit_from no_implicit_in bs no_trees;
+  declared = over_blocks declarations_from no_declarations_in bs no_trees;
+}
 
 procedures_behind : (ps : List Procedure) → IsBehind (procedure_trees ps)
 procedures_behind [] = nothing_behind
@@ -268,7 +268,7 @@ mutual
       let import_is = over_uses import_from (λ i c name names us. refl) uses after ∙ import_back import behind (over_implicit import_from (λ us. refl) implicit declared ∙ over_declarations import_from import_over ds ts ∙ b.import) in
       let implicit_is = over_uses implicit_from (λ i c name names us. refl) uses after ∙ over_import implicit_from (λ c names us. refl) import behind ∙ implicit_back implicit declared (over_declarations implicit_from implicit_over ds ts ∙ b.implicit) in
       let declared_are = over_uses declarations_from (λ i c name names us. refl) uses after ∙ over_import declarations_from (λ c names us. refl) import behind ∙ over_implicit declarations_from (λ us. refl) implicit declared
-          ∙ declarations_back ds ts b.declared (declared_matched uses import implicit ds ts m) in
+      ∙ declarations_back ds ts b.declared (declared_matched uses import implicit ds ts m) in
       λ i. specification (uses_are i) (import_is i) (implicit_is i) (declared_are i)
 
 -- ---- its trees tell a unit

@@ -1,6 +1,6 @@
 -- The trees of statements that trees of units say (ISO/IEC 1539-1:2018, 5.1 to 5.3): a unit and a construct is its first statement, what stands inside, and the
 -- statement that ends it; each other statement is a single one, ELSE IF, ELSE, CASE, RANK and CONTAINS among them.
-use Rattle.std.specs.Prelude.{ℕ, List, [], ◌∷◌, Option, Some, None, Bool, true, false, map}
+use Rattle.std.specs.Prelude.{List, [], ◌∷◌, Option, Some, None, Bool, true, false, map}
 use Rattle.f_tree.specs.declared.declaration.EndingForm.TheVariants.{Bare, TwoWords, OneWord}
 use Rattle.f_tree.specs.declared.unit.Unit.{Unit}
 use Rattle.f_line_grammar.specs.Lines as line

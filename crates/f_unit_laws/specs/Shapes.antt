@@ -1,7 +1,6 @@
 -- Trees of program units without their places (ISO/IEC 1539-1:2018, 5.1, 11.1, 14 and 15.6), each statement's own part as the grammar has it.
-use Rattle.std.specs.Prelude.{ℕ, List, [], ◌∷◌, Option, Some, None, Bool, true, false, map, is_some}
+use Rattle.std.specs.Prelude.{ℕ, List, [], ◌∷◌, Option, Some, None, Bool, map, is_some}
 use Rattle.std.specs.Option.{option_map}
-use Rattle.f_tree.specs.declared.name.Name.{Name}
 use Rattle.f_tree.specs.declared.declaration.Ending.{Ending}
 use Rattle.f_tree.specs.declared.declaration.EndingForm.{EndingForm}
 use Rattle.f_tree.specs.declared.statement.CaseChoice.{CaseChoice}
