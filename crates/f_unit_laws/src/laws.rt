@@ -12,7 +12,7 @@ pub fn units_are_derivations()
     ensures { (units : List ProgramUnit) → (spell_trees (derivation units) [] ≡ units_of units []) × ((file : IsFile (units_of units [])) → file.trees ≡ derivation units) }
 {}
 
-/// The statements of a file are those of no other units, but for places.
+/// The statements of a file are those of no other units, but for places and counts of tokens.
 pub fn one_tree()
     ensures { (a b : List ProgramUnit) → IsFile (units_of a []) → units_of a [] ≡ units_of b [] → bare_units a ≡ bare_units b }
 {}
