@@ -48,3 +48,10 @@ next_part Beginning k = next_at_beginning k
 next_part BehindImport k = next_behind_import k
 next_part BehindImplicit k = behind_implicit_if (is_declaration k)
 next_part Executing k = None
+
+-- a statement that stands in a specification part alone, and doesn't begin something there
+abbrev pub is_single : Kind → Bool
+is_single kind.Use = true
+is_single kind.Import = true
+is_single kind.ImplicitNone = true
+is_single k = is_declaration k

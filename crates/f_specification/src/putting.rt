@@ -118,9 +118,16 @@ fn put_declaration(
     ensures part { IfOk result (λ s. part_of s ≡ part.BehindImplicit) }
     ensures lines { IfOk result (λ s. (rest : ListOf grammar.Statement) → stage_lines s rest ≡ specification_lines specification (grammar.Declaring (view_declared declared) ∷ rest)) }
 {
+    behind_implicit(alloc, declare(specification, declared)?)
+}
+
+fn declare(specification: Specification, declared: Declared) -> Result<Specification, AllocError>
+    requires { is_declaration (kind_of declared) ≡ true }
+    ensures { IfOk result (λ s. (rest : ListOf grammar.Statement) → specification_lines s rest ≡ specification_lines specification (grammar.Declaring (view_declared declared) ∷ rest)) }
+{
     let mut specification = specification;
     push_declaration(&mut specification.declarations, declared)?;
-    behind_implicit(alloc, specification)
+    Ok(specification)
 }
 
 fn push_declaration(
