@@ -1,16 +1,16 @@
 -- What a single statement of a specification part does by the table of what may stand where is what `next_part` says (ISO/IEC 1539-1:2018, 5.3.2).
-use Rattle.std.proofs.Common.{◌≡◌, Option, Some, None, Bool, true, false, refl, sym, ap}
+use Rattle.std.proofs.Common.{◌≡◌, Some, true, refl, ap}
 use Rattle.std.specs.Prelude.{is_some}
 use Rattle.std.specs.Option.{IsSome}
 use Rattle.f_statement_grammar.specs.Statements.{Declaring}
-use Rattle.f_unit_grammar.specs.Units.{Part, Beginning, BehindImport, BehindImplicit, Executing, Scope, InProgram, InModule, InProcedure, InBody, State, InUnit, Role, stays, none, role, use_role, import_role, implicit_role, if_declares}
+use Rattle.f_unit_grammar.specs.Units.{Part, Beginning, BehindImport, BehindImplicit, Executing, Scope, InProgram, InModule, InProcedure, InBody, InUnit, Role, stays, none, role, use_role, import_role, implicit_role, if_declares}
 use Rattle.f_declared.specs.declared.statement.Declared.{Declared}
 use Rattle.f_declared.specs.declared.statement.Declared.TheVariants as statement
 use Rattle.f_declared.specs.Views.{view_declared}
 use Rattle.f_unit_parts.specs.declared.kind.Kind.{Kind}
 use Rattle.f_unit_parts.specs.declared.kind.Kind.TheVariants as kind
 use Rattle.f_unit_parts.specs.Views.{kind_of}
-use Rattle.f_specification.specs.Stages.{behind_implicit_if, next_part, is_single}
+use Rattle.f_specification.specs.Stages.{next_part, is_single}
 
 -- the unit stays open, and how far it has come is as `next_part` says
 pub record Stays (u : Scope) (p : Part) (k : Kind) (r : Role) : Type 0 where

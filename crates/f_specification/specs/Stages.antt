@@ -1,6 +1,5 @@
 -- How far a specification part has come, the statements that stand in it so far, and what one statement more does (ISO/IEC 1539-1:2018, 5.3.2, R504).
 use Rattle.std.specs.Prelude.{◌∷◌, Option, Some, None, Bool, true, false}
-use Rattle.std.specs.Option.{IsSome}
 use Rattle.f_unit_grammar.specs.Units.{Part, Beginning, BehindImport, BehindImplicit, Executing}
 use Rattle.f_construct_parts.specs.Lines.{Front}
 use Rattle.f_unit_parts.specs.Units.{import_line, uses_of, specification_lines}
