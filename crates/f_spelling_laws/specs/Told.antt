@@ -1,0 +1,116 @@
+-- Trees whose tokens their views tell. The views keep no place, no empty list where the grammar has none, and no words that end nothing, so these are
+-- the trees without such: no CHARACTER has empty parentheses (ISO/IEC 1539-1:2018, R721).
+use Rattle.std.specs.Prelude.{List, [], ◌∷◌, Option, Some, None, Bool, true, false, ◌&&◌, map}
+use Rattle.f_lex.specs.declared.token.Token.{Token}
+use Rattle.f_tree.specs.declared.lexeme.Lexeme.{Lexeme}
+use Rattle.f_tree.specs.declared.expression.Expression.{Expression}
+use Rattle.f_tree.specs.declared.expression.Argument.TheOpen as open_
+use Rattle.f_tree.specs.declared.expression.Argument.TheOpen.{Expression-F, Link-F, Reference-F, Part-F, Range-F, Argument-F, TypeSpec-F, KindSelector-F, CharacterParameter-F}
+use Rattle.f_tree.specs.declared.expression.Argument.TheFolds.{fold-Expression, fold-Link, fold-Reference, fold-Part, fold-Range, fold-TypeSpec, fold-KindSelector, fold-CharacterParameter}
+use Rattle.f_tree.specs.declared.expression.Link.{Link}
+use Rattle.f_tree.specs.declared.expression.Reference.{Reference}
+use Rattle.f_tree.specs.declared.expression.Part.{Part}
+use Rattle.f_tree.specs.declared.expression.Range.{Range}
+use Rattle.f_tree.specs.declared.expression.Argument.{Argument, fold-Argument}
+use Rattle.f_tree.specs.declared.expression.TypeSpec.{TypeSpec}
+use Rattle.f_tree.specs.declared.expression.KindSelector.{KindSelector}
+use Rattle.f_tree.specs.declared.expression.CharacterParameter.{CharacterParameter}
+
+-- the tokens of lexemes, without their places
+abbrev pub tokens_of : List Lexeme → List Token
+tokens_of ts = map (λ t. t.token) ts
+
+-- ---- parts
+
+abbrev pub all : List Bool → Bool
+all [] = true
+all (b ∷ bs) = b && all bs
+
+-- where it is there
+abbrev pub maybe : Option Bool → Bool
+maybe None = true
+maybe (Some b) = b
+
+abbrev pub maybe_all : Option (List Bool) → Bool
+maybe_all None = true
+maybe_all (Some bs) = all bs
+
+-- there is one, and all are told
+abbrev pub some_all : List Bool → Bool
+some_all [] = false
+some_all (b ∷ bs) = b && all bs
+
+abbrev pub maybe_some_all : Option (List Bool) → Bool
+maybe_some_all None = true
+maybe_some_all (Some bs) = some_all bs
+
+-- ---- expressions, references and types
+
+abbrev pub expression_told : Expression-F Bool Bool Bool Bool Bool Bool Bool Bool Bool → Bool
+expression_told (open_.Number digits k p) = true
+expression_told (open_.Truth value k p) = true
+expression_told (open_.Text bytes k p) = true
+expression_told (open_.Reference r) = r
+expression_told (open_.Parenthesized p inner) = inner
+expression_told (open_.Constructor p declared items) = maybe declared && all items
+expression_told (open_.Chain level sign first links) = first && all links
+
+abbrev pub link_told : Link-F Bool Bool Bool Bool Bool Bool Bool Bool Bool → Bool
+link_told l = l.operand
+
+abbrev pub reference_told : Reference-F Bool Bool Bool Bool Bool Bool Bool Bool Bool → Bool
+reference_told r = r.first && all r.others
+
+abbrev pub part_told : Part-F Bool Bool Bool Bool Bool Bool Bool Bool Bool → Bool
+part_told p = maybe_all p.arguments && maybe p.substring
+
+abbrev pub range_told : Range-F Bool Bool Bool Bool Bool Bool Bool Bool Bool → Bool
+range_told r = maybe r.lower && maybe r.upper
+
+abbrev pub argument_told : Argument-F Bool Bool Bool Bool Bool Bool Bool Bool Bool → Bool
+argument_told (open_.Value keyword value) = value
+argument_told (open_.Section lower p upper stride) = maybe lower && (maybe upper && maybe stride)
+argument_told (open_.Strided lower p stride) = maybe lower && stride
+
+abbrev pub type_told : TypeSpec-F Bool Bool Bool Bool Bool Bool Bool Bool Bool → Bool
+type_told (open_.Integer p k) = maybe k
+type_told (open_.Logical p k) = maybe k
+type_told (open_.Character p ps) = maybe_some_all ps
+type_told (open_.Derived p name) = true
+type_told (open_.Assumed p) = true
+
+abbrev pub kind_told : KindSelector-F Bool Bool Bool Bool Bool Bool Bool Bool Bool → Bool
+kind_told k = k.value
+
+abbrev pub parameter_told : CharacterParameter-F Bool Bool Bool Bool Bool Bool Bool Bool Bool → Bool
+parameter_told (open_.Length word value) = value
+parameter_told (open_.AssumedLength word p) = true
+parameter_told (open_.Kind word value) = value
+
+abbrev pub is_told : Expression → Bool
+is_told = fold-Expression Bool Bool Bool Bool Bool Bool Bool Bool Bool argument_told parameter_told expression_told type_told kind_told link_told part_told range_told reference_told
+
+abbrev pub link_is_told : Link → Bool
+link_is_told = fold-Link Bool Bool Bool Bool Bool Bool Bool Bool Bool argument_told parameter_told expression_told type_told kind_told link_told part_told range_told reference_told
+
+abbrev pub reference_is_told : Reference → Bool
+reference_is_told = fold-Reference Bool Bool Bool Bool Bool Bool Bool Bool Bool argument_told parameter_told expression_told type_told kind_told link_told part_told range_told reference_told
+
+abbrev pub part_is_told : Part → Bool
+part_is_told = fold-Part Bool Bool Bool Bool Bool Bool Bool Bool Bool argument_told parameter_told expression_told type_told kind_told link_told part_told range_told reference_told
+
+abbrev pub range_is_told : Range → Bool
+range_is_told = fold-Range Bool Bool Bool Bool Bool Bool Bool Bool Bool argument_told parameter_told expression_told type_told kind_told link_told part_told range_told reference_told
+
+abbrev pub argument_is_told : Argument → Bool
+argument_is_told = fold-Argument Bool Bool Bool Bool Bool Bool Bool Bool Bool argument_told parameter_told expression_told type_told kind_told link_told part_told range_told reference_told
+
+abbrev pub type_is_told : TypeSpec → Bool
+type_is_told = fold-TypeSpec Bool Bool Bool Bool Bool Bool Bool Bool Bool argument_told parameter_told expression_told type_told kind_told link_told part_told range_told reference_told
+
+abbrev pub kind_is_told : KindSelector → Bool
+kind_is_told = fold-KindSelector Bool Bool Bool Bool Bool Bool Bool Bool Bool argument_told parameter_told expression_told type_told kind_told link_told part_told range_told reference_told
+
+abbrev pub parameter_is_told : CharacterParameter → Bool
+parameter_is_told = fold-CharacterParameter Bool Bool Bool Bool Bool Bool Bool Bool Bool argument_told parameter_told expression_told type_told kind_told link_told part_told range_told reference_told
+

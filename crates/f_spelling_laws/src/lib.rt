@@ -1,0 +1,2 @@
+//! The tokens that trees of Fortran units stand for, as the grammar spells them.
+#![tactic(auto)]
