@@ -1,6 +1,7 @@
 -- Trees whose tokens their views tell. The views keep no place, no empty list where the grammar has none, and no words that end nothing, so these are
 -- the trees without such: no CHARACTER has empty parentheses (ISO/IEC 1539-1:2018, R721).
-use Rattle.std.specs.Prelude.{List, [], ◌∷◌, Option, Some, None, Bool, true, false, ◌&&◌, map}
+use Rattle.std.specs.Prelude.{List, [], ◌∷◌, Option, Some, None, Bool, true, false, ◌&&◌, map, is_none}
+use Rattle.std.specs.Option.{option_map}
 use Rattle.f_lex.specs.declared.token.Token.{Token}
 use Rattle.f_tree.specs.declared.lexeme.Lexeme.{Lexeme}
 use Rattle.f_tree.specs.declared.expression.Expression.{Expression}
@@ -15,6 +16,17 @@ use Rattle.f_tree.specs.declared.expression.Argument.{Argument, fold-Argument}
 use Rattle.f_tree.specs.declared.expression.TypeSpec.{TypeSpec}
 use Rattle.f_tree.specs.declared.expression.KindSelector.{KindSelector}
 use Rattle.f_tree.specs.declared.expression.CharacterParameter.{CharacterParameter}
+use Rattle.f_tree.specs.declared.declaration.Ending.{Ending}
+use Rattle.f_tree.specs.declared.statement.Action.{Action}
+use Rattle.f_tree.specs.declared.statement.Action.TheVariants as action
+use Rattle.f_tree.specs.declared.statement.LoopControl.{LoopControl}
+use Rattle.f_tree.specs.declared.statement.LoopControl.TheVariants as control
+use Rattle.f_tree.specs.declared.statement.CaseRange.{CaseRange}
+use Rattle.f_tree.specs.declared.statement.CaseRange.TheVariants as case_range
+use Rattle.f_tree.specs.declared.statement.CaseChoice.{CaseChoice}
+use Rattle.f_tree.specs.declared.statement.CaseChoice.TheVariants as choice
+use Rattle.f_tree.specs.declared.statement.RankChoice.{RankChoice}
+use Rattle.f_tree.specs.declared.statement.RankChoice.TheVariants as rank
 
 -- the tokens of lexemes, without their places
 abbrev pub tokens_of : List Lexeme → List Token
@@ -113,4 +125,54 @@ kind_is_told = fold-KindSelector Bool Bool Bool Bool Bool Bool Bool Bool Bool ar
 
 abbrev pub parameter_is_told : CharacterParameter → Bool
 parameter_is_told = fold-CharacterParameter Bool Bool Bool Bool Bool Bool Bool Bool Bool argument_told parameter_told expression_told type_told kind_told link_told part_told range_told reference_told
+
+-- ---- action statements: some objects, targets and so on are there (R927, R940, R939, R1212)
+
+abbrev pub maybe_told : Option Expression → Bool
+maybe_told e = maybe (option_map is_told e)
+
+abbrev pub status_told : Option Reference → Bool
+status_told r = maybe (option_map reference_is_told r)
+
+abbrev pub references_told : List Reference → Bool
+references_told rs = some_all (map reference_is_told rs)
+
+abbrev pub action_told : Action → Bool
+action_told (action.Assign target value) = reference_is_told target && is_told value
+action_told (action.Associate target value) = reference_is_told target && is_told value
+action_told (action.Call p name arguments) = maybe_all (option_map (map argument_is_told) arguments)
+action_told (action.Exit p) = true
+action_told (action.Cycle p) = true
+action_told (action.Return p) = true
+action_told (action.Stop p is_error code) = maybe_told code
+action_told (action.Allocate p objects stat) = references_told objects && status_told stat
+action_told (action.Deallocate p objects stat) = references_told objects && status_told stat
+action_told (action.Nullify p objects) = references_told objects
+action_told (action.Print p items) = all (map is_told items)
+action_told (action.Read p targets) = references_told targets
+action_told (action.ReadUnit p stat targets) = status_told stat && references_told targets
+
+-- ---- statements that begin, divide and end constructs: no CASE has empty parentheses (R1146), and no name stands behind the end
+
+abbrev pub control_told : LoopControl → Bool
+control_told control.Endless = true
+control_told (control.Count comma v first last step) = is_told first && (is_told last && maybe_told step)
+control_told (control.While comma condition) = is_told condition
+
+abbrev pub values_told : CaseRange → Bool
+values_told (case_range.Value e) = is_told e
+values_told (case_range.From lower upper) = is_told lower && maybe_told upper
+values_told (case_range.UpTo p upper) = is_told upper
+
+abbrev pub choice_told : CaseChoice → Bool
+choice_told choice.Default = true
+choice_told (choice.Ranges rs) = some_all (map values_told rs)
+
+abbrev pub rank_told : RankChoice → Bool
+rank_told rank.Default = true
+rank_told (rank.Rank e) = is_told e
+rank_told (rank.AssumedSize p) = true
+
+abbrev pub construct_end_told : Ending → Bool
+construct_end_told e = is_none e.name
 
