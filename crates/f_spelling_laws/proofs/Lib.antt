@@ -2,3 +2,4 @@ pub mod Fronts
 pub mod Expressions
 pub mod Ahead
 pub mod Actions
+pub mod Lines
