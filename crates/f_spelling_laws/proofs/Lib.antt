@@ -3,3 +3,4 @@ pub mod Expressions
 pub mod Ahead
 pub mod Actions
 pub mod Lines
+pub mod Constructs

@@ -27,6 +27,18 @@ use Rattle.f_tree.specs.declared.statement.CaseChoice.{CaseChoice}
 use Rattle.f_tree.specs.declared.statement.CaseChoice.TheVariants as choice
 use Rattle.f_tree.specs.declared.statement.RankChoice.{RankChoice}
 use Rattle.f_tree.specs.declared.statement.RankChoice.TheVariants as rank
+use Rattle.f_tree.specs.declared.statement.Statement.{Statement as Construct, fold-Statement}
+use Rattle.f_tree.specs.declared.statement.Statement.TheOpen as statement_form
+use Rattle.f_tree.specs.declared.statement.Statement.TheOpen.{Statement-F, Case-F, DoConstruct-F, Else-F, ElseIf-F, IfConstruct-F, RankCase-F, SelectCase-F, SelectRank-F}
+use Rattle.f_tree.specs.declared.statement.Statement.TheFolds.{fold-Case, fold-DoConstruct, fold-Else, fold-ElseIf, fold-IfConstruct, fold-RankCase, fold-SelectCase, fold-SelectRank}
+use Rattle.f_tree.specs.declared.statement.Case.{Case}
+use Rattle.f_tree.specs.declared.statement.DoConstruct.{DoConstruct}
+use Rattle.f_tree.specs.declared.statement.Else.{Else}
+use Rattle.f_tree.specs.declared.statement.ElseIf.{ElseIf}
+use Rattle.f_tree.specs.declared.statement.IfConstruct.{IfConstruct}
+use Rattle.f_tree.specs.declared.statement.RankCase.{RankCase}
+use Rattle.f_tree.specs.declared.statement.SelectCase.{SelectCase}
+use Rattle.f_tree.specs.declared.statement.SelectRank.{SelectRank}
 
 -- the tokens of lexemes, without their places
 abbrev pub tokens_of : List Lexeme → List Token
@@ -176,3 +188,63 @@ rank_told (rank.AssumedSize p) = true
 abbrev pub construct_end_told : Ending → Bool
 construct_end_told e = is_none e.name
 
+-- ---- constructs
+
+abbrev pub construct_told : Statement-F Bool Bool Bool Bool Bool Bool Bool Bool Bool → Bool
+construct_told (statement_form.Action a) = action_told a
+construct_told (statement_form.IfAction p condition a) = is_told condition && action_told a
+construct_told (statement_form.If c) = c
+construct_told (statement_form.Do c) = c
+construct_told (statement_form.SelectCase c) = c
+construct_told (statement_form.SelectRank c) = c
+
+abbrev pub if_told : IfConstruct-F Bool Bool Bool Bool Bool Bool Bool Bool Bool → Bool
+if_told c = is_told c.condition && (all c.body && (all c.else_ifs && (maybe c.otherwise && construct_end_told c.ending)))
+
+abbrev pub else_if_told : ElseIf-F Bool Bool Bool Bool Bool Bool Bool Bool Bool → Bool
+else_if_told c = is_told c.condition && all c.body
+
+abbrev pub else_told : Else-F Bool Bool Bool Bool Bool Bool Bool Bool Bool → Bool
+else_told c = all c.body
+
+abbrev pub do_told : DoConstruct-F Bool Bool Bool Bool Bool Bool Bool Bool Bool → Bool
+do_told c = control_told c.control && (all c.body && construct_end_told c.ending)
+
+abbrev pub select_told : SelectCase-F Bool Bool Bool Bool Bool Bool Bool Bool Bool → Bool
+select_told c = is_told c.selector && (all c.cases && construct_end_told c.ending)
+
+abbrev pub case_told : Case-F Bool Bool Bool Bool Bool Bool Bool Bool Bool → Bool
+case_told c = choice_told c.choice && all c.body
+
+abbrev pub select_rank_told : SelectRank-F Bool Bool Bool Bool Bool Bool Bool Bool Bool → Bool
+select_rank_told c = all c.ranks && construct_end_told c.ending
+
+abbrev pub rank_part_told : RankCase-F Bool Bool Bool Bool Bool Bool Bool Bool Bool → Bool
+rank_part_told c = rank_told c.choice && all c.body
+
+abbrev pub construct_is_told : Construct → Bool
+construct_is_told = fold-Statement Bool Bool Bool Bool Bool Bool Bool Bool Bool construct_told case_told do_told else_told else_if_told if_told rank_part_told select_told select_rank_told
+
+abbrev pub case_is_told : Case → Bool
+case_is_told = fold-Case Bool Bool Bool Bool Bool Bool Bool Bool Bool construct_told case_told do_told else_told else_if_told if_told rank_part_told select_told select_rank_told
+
+abbrev pub do_is_told : DoConstruct → Bool
+do_is_told = fold-DoConstruct Bool Bool Bool Bool Bool Bool Bool Bool Bool construct_told case_told do_told else_told else_if_told if_told rank_part_told select_told select_rank_told
+
+abbrev pub else_is_told : Else → Bool
+else_is_told = fold-Else Bool Bool Bool Bool Bool Bool Bool Bool Bool construct_told case_told do_told else_told else_if_told if_told rank_part_told select_told select_rank_told
+
+abbrev pub else_if_is_told : ElseIf → Bool
+else_if_is_told = fold-ElseIf Bool Bool Bool Bool Bool Bool Bool Bool Bool construct_told case_told do_told else_told else_if_told if_told rank_part_told select_told select_rank_told
+
+abbrev pub if_is_told : IfConstruct → Bool
+if_is_told = fold-IfConstruct Bool Bool Bool Bool Bool Bool Bool Bool Bool construct_told case_told do_told else_told else_if_told if_told rank_part_told select_told select_rank_told
+
+abbrev pub rank_is_told : RankCase → Bool
+rank_is_told = fold-RankCase Bool Bool Bool Bool Bool Bool Bool Bool Bool construct_told case_told do_told else_told else_if_told if_told rank_part_told select_told select_rank_told
+
+abbrev pub select_is_told : SelectCase → Bool
+select_is_told = fold-SelectCase Bool Bool Bool Bool Bool Bool Bool Bool Bool construct_told case_told do_told else_told else_if_told if_told rank_part_told select_told select_rank_told
+
+abbrev pub select_rank_is_told : SelectRank → Bool
+select_rank_is_told = fold-SelectRank Bool Bool Bool Bool Bool Bool Bool Bool Bool construct_told case_told do_told else_told else_if_told if_told rank_part_told select_told select_rank_told
