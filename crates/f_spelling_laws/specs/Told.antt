@@ -17,6 +17,39 @@ use Rattle.f_tree.specs.declared.expression.TypeSpec.{TypeSpec}
 use Rattle.f_tree.specs.declared.expression.KindSelector.{KindSelector}
 use Rattle.f_tree.specs.declared.expression.CharacterParameter.{CharacterParameter}
 use Rattle.f_tree.specs.declared.declaration.Ending.{Ending}
+use Rattle.f_tree.specs.declared.name.Name.{Name}
+use Rattle.f_tree.specs.declared.declaration.Dimension.{Dimension}
+use Rattle.f_tree.specs.declared.declaration.Dimension.TheVariants as dimension_form
+use Rattle.f_tree.specs.declared.declaration.AttributeForm.{AttributeForm}
+use Rattle.f_tree.specs.declared.declaration.Attribute.{Attribute}
+use Rattle.f_tree.specs.declared.declaration.Initial.{Initial}
+use Rattle.f_tree.specs.declared.declaration.Entity.{Entity}
+use Rattle.f_tree.specs.declared.declaration.Variables.{Variables}
+use Rattle.f_tree.specs.declared.declaration.UseList.{UseList}
+use Rattle.f_tree.specs.declared.declaration.Use.{Use}
+use Rattle.f_tree.specs.declared.declaration.Field.{Field}
+use Rattle.f_tree.specs.declared.declaration.Component.{Component}
+use Rattle.f_tree.specs.declared.declaration.EndingForm.{EndingForm}
+use Rattle.f_tree.specs.declared.declaration.DerivedType.{DerivedType}
+use Rattle.f_tree.specs.declared.declaration.Interface.{Interface}
+use Rattle.f_tree.specs.declared.declaration.InterfaceBody.{InterfaceBody}
+use Rattle.f_tree.specs.declared.declaration.Specification.{Specification}
+use Rattle.f_tree.specs.declared.declaration.AttributeForm.TheVariants as attribute_form
+use Rattle.f_tree.specs.declared.declaration.Initial.TheVariants as initial
+use Rattle.f_tree.specs.declared.declaration.UseList.TheVariants as uses
+use Rattle.f_tree.specs.declared.declaration.EndingForm.TheVariants.{Bare, TwoWords, OneWord}
+use Rattle.f_tree.specs.declared.declaration.Declaration.{Declaration, fold-Declaration}
+use Rattle.f_tree.specs.declared.declaration.Declaration.TheOpen as declaration_form
+use Rattle.f_tree.specs.declared.declaration.Declaration.TheOpen.{Declaration-F, Interface-F, InterfaceBody-F, Specification-F}
+use Rattle.f_tree.specs.declared.declaration.Declaration.TheFolds.{fold-Interface, fold-InterfaceBody, fold-Specification}
+use Rattle.f_tree.specs.declared.unit.Prefix.{Prefix}
+use Rattle.f_tree.specs.declared.unit.Head.{Head}
+use Rattle.f_tree.specs.declared.unit.Procedure.{Procedure}
+use Rattle.f_tree.specs.declared.unit.Program.{Program}
+use Rattle.f_tree.specs.declared.unit.Module.{Module}
+use Rattle.f_tree.specs.declared.unit.Prefix.TheVariants as prefix_form
+use Rattle.f_tree.specs.declared.unit.Unit.{Unit as ProgramUnit}
+use Rattle.f_tree.specs.declared.unit.Unit.TheVariants as unit_form
 use Rattle.f_tree.specs.declared.statement.Action.{Action}
 use Rattle.f_tree.specs.declared.statement.Action.TheVariants as action
 use Rattle.f_tree.specs.declared.statement.LoopControl.{LoopControl}
@@ -248,3 +281,118 @@ select_is_told = fold-SelectCase Bool Bool Bool Bool Bool Bool Bool Bool Bool co
 
 abbrev pub select_rank_is_told : SelectRank → Bool
 select_rank_is_told = fold-SelectRank Bool Bool Bool Bool Bool Bool Bool Bool Bool construct_told case_told do_told else_told else_if_told if_told rank_part_told select_told select_rank_told
+
+-- ---- declarations: a list of renamed names isn't empty (14.2.2), and END alone has no name behind it
+
+abbrev pub dimension_told : Dimension → Bool
+dimension_told (dimension_form.Upper e) = is_told e
+dimension_told (dimension_form.Bounds low high) = is_told low && is_told high
+dimension_told (dimension_form.Deferred lower p) = maybe_told lower
+dimension_told (dimension_form.AssumedSize lower p) = maybe_told lower
+dimension_told (dimension_form.AssumedRank p) = true
+
+abbrev pub dimensions_told : List Dimension → Bool
+dimensions_told ds = all (map dimension_told ds)
+
+abbrev pub maybe_dimensions_told : Option (List Dimension) → Bool
+maybe_dimensions_told ds = maybe (option_map dimensions_told ds)
+
+abbrev pub form_told : AttributeForm → Bool
+form_told (attribute_form.Dimension ds) = dimensions_told ds
+form_told _ = true
+
+abbrev pub attribute_told : Attribute → Bool
+attribute_told a = form_told a.form
+
+abbrev pub initial_told : Initial → Bool
+initial_told (initial.Value e) = is_told e
+initial_told (initial.Null p) = true
+
+abbrev pub entity_told : Entity → Bool
+entity_told e = maybe_dimensions_told e.dimensions && maybe (option_map initial_told e.initial)
+
+abbrev pub variables_told : Variables → Bool
+variables_told v = type_is_told v.declared && (all (map attribute_told v.attributes) && all (map entity_told v.entities))
+
+abbrev pub list_told : UseList → Bool
+list_told uses.All = true
+list_told (uses.Renamed []) = false
+list_told (uses.Renamed (r ∷ rs)) = true
+list_told (uses.Only os) = true
+
+abbrev pub use_told : Use → Bool
+use_told u = list_told u.list
+
+abbrev pub prefix_told : Prefix → Bool
+prefix_told (prefix_form.Recursive p) = true
+prefix_told (prefix_form.Type t) = type_is_told t
+
+abbrev pub head_told : Head → Bool
+head_told h = all (map prefix_told h.prefixes)
+
+abbrev pub field_told : Field → Bool
+field_told f = maybe_dimensions_told f.dimensions
+
+abbrev pub component_told : Component → Bool
+component_told c = type_is_told c.declared && (maybe_dimensions_told c.dimensions && all (map field_told c.fields))
+
+abbrev pub words_told : EndingForm → Option Name → Bool
+words_told Bare None = true
+words_told Bare (Some n) = false
+words_told TwoWords name = true
+words_told OneWord name = true
+
+abbrev pub unit_end_told : Ending → Bool
+unit_end_told e = words_told e.form e.name
+
+abbrev pub derived_type_told : DerivedType → Bool
+derived_type_told t = all (map component_told t.components) && unit_end_told t.ending
+
+abbrev pub declaration_told : Declaration-F Bool Bool Bool Bool → Bool
+declaration_told (declaration_form.Variables v) = variables_told v
+declaration_told (declaration_form.DerivedType t) = derived_type_told t
+declaration_told (declaration_form.Interface i) = i
+declaration_told (declaration_form.Access a) = true
+declaration_told (declaration_form.Save p) = true
+declaration_told (declaration_form.ProcedurePointers p) = true
+
+abbrev pub interface_told : Interface-F Bool Bool Bool Bool → Bool
+interface_told i = all i.bodies && unit_end_told i.ending
+
+abbrev pub body_told : InterfaceBody-F Bool Bool Bool Bool → Bool
+body_told b = head_told b.head && (b.specification && unit_end_told b.ending)
+
+abbrev pub specification_told : Specification-F Bool Bool Bool Bool → Bool
+specification_told s = all (map use_told s.uses) && all s.declarations
+
+abbrev pub declaration_is_told : Declaration → Bool
+declaration_is_told = fold-Declaration Bool Bool Bool Bool declaration_told interface_told body_told specification_told
+
+abbrev pub interface_is_told : Interface → Bool
+interface_is_told = fold-Interface Bool Bool Bool Bool declaration_told interface_told body_told specification_told
+
+abbrev pub body_is_told : InterfaceBody → Bool
+body_is_told = fold-InterfaceBody Bool Bool Bool Bool declaration_told interface_told body_told specification_told
+
+abbrev pub specification_is_told : Specification → Bool
+specification_is_told = fold-Specification Bool Bool Bool Bool declaration_told interface_told body_told specification_told
+
+-- ---- units
+
+abbrev pub procedure_told : Procedure → Bool
+procedure_told p = head_told p.head && (specification_is_told p.specification && (all (map construct_is_told p.body) && unit_end_told p.ending))
+
+abbrev pub program_told : Program → Bool
+program_told p = specification_is_told p.specification && (all (map construct_is_told p.body) && unit_end_told p.ending)
+
+abbrev pub procedures_told : List Procedure → Bool
+procedures_told ps = all (map procedure_told ps)
+
+abbrev pub module_told : Module → Bool
+module_told m = specification_is_told m.specification && (maybe (option_map procedures_told m.procedures) && unit_end_told m.ending)
+
+-- the view of a unit tells its tokens
+abbrev pub unit_told : ProgramUnit → Bool
+unit_told (unit_form.Program p) = program_told p
+unit_told (unit_form.Module m) = module_told m
+unit_told (unit_form.Procedure p) = procedure_told p
