@@ -4,3 +4,4 @@ pub mod Ahead
 pub mod Actions
 pub mod Lines
 pub mod Constructs
+pub mod Declarations
