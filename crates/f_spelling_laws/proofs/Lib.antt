@@ -5,3 +5,5 @@ pub mod Actions
 pub mod Lines
 pub mod Constructs
 pub mod Declarations
+pub mod Specifications
+pub mod Units
