@@ -7,3 +7,4 @@ pub mod Constructs
 pub mod Declarations
 pub mod Specifications
 pub mod Units
+pub mod Whole

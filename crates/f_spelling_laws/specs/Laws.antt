@@ -1,0 +1,44 @@
+-- What is shown: the tokens of a tree are those that the grammar spells for its view.
+use Rattle.std.specs.Prelude.{◌≡◌, List, [], ◌∷◌, ◌++◌, Bool, true, map}
+use Rattle.f_lex.specs.declared.token.Token.TheVariants as token
+use Rattle.f_tree.specs.declared.lexeme.Lexeme.{Lexeme}
+use Rattle.f_tree.specs.declared.expression.Expression.{Expression}
+use Rattle.f_tree.specs.declared.expression.Reference.{Reference}
+use Rattle.f_tree.specs.declared.expression.TypeSpec.{TypeSpec}
+use Rattle.f_tree.specs.declared.statement.Action.{Action}
+use Rattle.f_tree.specs.declared.statement.Statement.{Statement as Construct}
+use Rattle.f_tree.specs.declared.declaration.Specification.{Specification}
+use Rattle.f_tree.specs.declared.unit.Unit.{Unit as ProgramUnit}
+use Rattle.f_tree.specs.Lexemes.{each}
+use Rattle.f_tree.specs.Expressions.{expression, reference, type_spec}
+use Rattle.f_tree.specs.Statements.{action, statement}
+use Rattle.f_tree.specs.Units.{specification, unit}
+use Rattle.f_grammar.specs.Grammar.{spell, spell_refer, spell_type}
+use Rattle.f_grammar.specs.Actions.{spell_act}
+use Rattle.f_expr_read.specs.Views.{view, view_reference, view_type}
+use Rattle.f_action_read.specs.Actions.{view_action}
+use Rattle.f_construct_parts.specs.Lines.{blocks_of}
+use Rattle.f_unit_parts.specs.Units.{specification_lines, units_of}
+use Rattle.f_spelling_laws.specs.Told.{tokens_of, all, is_told, reference_is_told, type_is_told, action_told, construct_is_told, specification_is_told, unit_told}
+use Rattle.f_spelling_laws.specs.Statements.{spell_statements}
+
+abbrev pub OfExpressions : Type 0
+OfExpressions = (e : Expression) → is_told e ≡ true → (rest : List Lexeme) → tokens_of (expression e rest) ≡ spell (view e) (tokens_of rest)
+
+abbrev pub OfReferences : Type 0
+OfReferences = (r : Reference) → reference_is_told r ≡ true → (rest : List Lexeme) → tokens_of (reference r rest) ≡ spell_refer (view_reference r) (tokens_of rest)
+
+abbrev pub OfTypes : Type 0
+OfTypes = (t : TypeSpec) → type_is_told t ≡ true → (rest : List Lexeme) → tokens_of (type_spec t rest) ≡ spell_type (view_type t) (tokens_of rest)
+
+abbrev pub OfActions : Type 0
+OfActions = (a : Action) → action_told a ≡ true → (rest : List Lexeme) → tokens_of (action a rest) ≡ spell_act (view_action a) ++ tokens_of rest
+
+abbrev pub OfBlocks : Type 0
+OfBlocks = (cs : List Construct) → all (map construct_is_told cs) ≡ true → (rest : List Lexeme) → tokens_of (each (map statement cs) rest) ≡ spell_statements (blocks_of cs []) (tokens_of rest)
+
+abbrev pub OfSpecifications : Type 0
+OfSpecifications = (s : Specification) → specification_is_told s ≡ true → (rest : List Lexeme) → tokens_of (specification s rest) ≡ spell_statements (specification_lines s []) (tokens_of rest)
+
+abbrev pub OfUnits : Type 0
+OfUnits = (us : List ProgramUnit) → all (map unit_told us) ≡ true → (rest : List Lexeme) → tokens_of (each (map unit us) rest) ≡ spell_statements (units_of us []) (tokens_of rest)

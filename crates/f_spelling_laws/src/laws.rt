@@ -1,0 +1,38 @@
+//! Laws of the tokens that trees stand for.
+
+ghost use Rattle.f_spelling_laws.specs.Laws.{OfExpressions, OfReferences, OfTypes, OfActions, OfBlocks, OfSpecifications, OfUnits};
+
+/// The tokens of an expression are those that the grammar spells for it (ISO/IEC 1539-1:2018, 10.1).
+pub fn lexemes_of_an_expression()
+    ensures { OfExpressions }
+{}
+
+/// The tokens of a reference are those that the grammar spells for it (9.1).
+pub fn lexemes_of_a_reference()
+    ensures { OfReferences }
+{}
+
+/// The tokens of a type are those that the grammar spells for it (7.3.2).
+pub fn lexemes_of_a_type()
+    ensures { OfTypes }
+{}
+
+/// The tokens of an action statement are those that the grammar spells for it (5.1, R515).
+pub fn lexemes_of_an_action()
+    ensures { OfActions }
+{}
+
+/// The tokens of a block are those of its statements one after the other, each with its end (11.1).
+pub fn lexemes_of_a_block()
+    ensures { OfBlocks }
+{}
+
+/// The tokens of a specification are those of its statements one after the other, each with its end (5.1).
+pub fn lexemes_of_a_specification()
+    ensures { OfSpecifications }
+{}
+
+/// The tokens of units are those of their statements one after the other, each with its end (5.1 to 5.3).
+pub fn lexemes_are_the_statements()
+    ensures { OfUnits }
+{}
