@@ -1,5 +1,5 @@
 -- The tokens of action statements are those that the grammar spells for their views (ISO/IEC 1539-1:2018, 5.1, R515).
-use Rattle.std.proofs.Common.{◌≡◌, ℕ, List, [], ◌∷◌, ◌++◌, Option, Some, None, Bool, true, false, ◌&&◌, map, refl, sym, ap, ◌∙◌}
+use Rattle.std.proofs.Common.{◌≡◌, ℕ, List, [], ◌∷◌, ◌++◌, Option, Some, None, Bool, true, false, ◌&&◌, map, refl, ap, ◌∙◌}
 use Rattle.std.specs.Prelude.{codes}
 use Rattle.std.specs.Option.{option_map}
 use Rattle.f_lex.specs.declared.token.Mark.TheVariants as mark
@@ -11,16 +11,16 @@ use Rattle.f_tree.specs.declared.expression.Reference.{Reference}
 use Rattle.f_tree.specs.declared.expression.Argument.{Argument}
 use Rattle.f_tree.specs.declared.statement.Action.{Action}
 use Rattle.f_tree.specs.declared.statement.Action.TheVariants as action_form
-use Rattle.f_tree.specs.Lexemes.{Front, mark_of, behind_commas, listed, if_there}
+use Rattle.f_tree.specs.Lexemes.{mark_of, behind_commas, listed, if_there}
 use Rattle.f_tree.specs.Expressions.{expression, reference, argument}
 use Rattle.f_tree.specs.Statements.{action, call_arguments, status as status_front}
-use Rattle.f_grammar.specs.Grammar.{Refer, Group, Maybe, put, spell, spell_refer, spell_group, spell_args, spell_others, spell_arg, spell_maybe}
+use Rattle.f_grammar.specs.Grammar.{Refer, put, spell, spell_refer, spell_group, spell_others, spell_arg, spell_maybe}
 use Rattle.f_grammar.specs.Actions.{Act, Assign, Associate, Call, Exit, Cycle, Return, Stop, ErrorStop, Allocate, Deallocate, Nullify, Print, Read, ReadUnit, Refs, no_refs, ref, Exprs, no_exprs, expr, Status, NoStatus, status, spell_refs, spell_exprs, spell_status, spell_act}
 use Rattle.f_expr_read.specs.Views.{view, view_reference, view_argument, view_maybe, args_of, group_of}
-use Rattle.f_action_read.specs.Actions.{refs_of, exprs_of, status_of, view_status, view_action}
-use Rattle.f_spelling_laws.specs.Told.{tokens_of, all, some_all, maybe, maybe_all, maybe_told, status_told, references_told, is_told, reference_is_told, argument_is_told, action_told}
+use Rattle.f_action_read.specs.Actions.{refs_of, exprs_of, view_status, view_action}
+use Rattle.f_spelling_laws.specs.Told.{tokens_of, all, maybe_all, maybe_told, status_told, is_told, reference_is_told, argument_is_told, action_told}
 use Rattle.f_spelling_laws.proofs.Fronts.{first_of, second_of}
-use Rattle.f_spelling_laws.proofs.Ahead.{Carries, then_carries, token_carries, carries, refer_carries, group_carries, maybe_carries}
+use Rattle.f_spelling_laws.proofs.Ahead.{Carries, carries, refer_carries, group_carries, maybe_carries}
 use Rattle.f_spelling_laws.proofs.Expressions.{expressions_spelled, references_spelled, arguments_spelled}
 
 -- ---- action statements in front of a rest
@@ -178,8 +178,8 @@ action_front_spelled (action_form.ReadUnit p stat []) sure rest = absurd (let no
 action_front_spelled (action_form.ReadUnit p stat (r ∷ rs)) sure rest =
     let a : Bool = reference_is_told r && all (map reference_is_told rs) in
     ap (λ (ts : List Token). token.Name (codes "read") ∷ put mark.Open (put mark.Star (put mark.Comma (put mark.Star ts))))
-        (status_spelled (codes "iostat") stat (first_of (status_told stat) a sure) (mark_of mark.Close (listed (map reference (r ∷ rs)) rest))
-        ∙ ap (λ (ts : List Token). spell_status (codes "iostat") (view_status stat) (put mark.Close ts)) (some_spelled r rs (second_of (status_told stat) a sure) rest))
+    (status_spelled (codes "iostat") stat (first_of (status_told stat) a sure) (mark_of mark.Close (listed (map reference (r ∷ rs)) rest))
+    ∙ ap (λ (ts : List Token). spell_status (codes "iostat") (view_status stat) (put mark.Close ts)) (some_spelled r rs (second_of (status_told stat) a sure) rest))
 
 -- the tokens of an action statement are those of its view, and then what follows
 pub action_spelled : (x : Action) → action_told x ≡ true → (rest : List Lexeme) → tokens_of (action x rest) ≡ spell_act (view_action x) ++ tokens_of rest

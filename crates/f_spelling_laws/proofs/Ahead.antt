@@ -1,5 +1,5 @@
 -- A spelling in front of two lists is the spelling in front of the first, and then the second.
-use Rattle.std.proofs.Common.{◌≡◌, ℕ, List, [], ◌∷◌, ◌++◌, Option, Some, None, Bool, true, false, refl, ap, ◌∙◌}
+use Rattle.std.proofs.Common.{◌≡◌, ℕ, List, ◌∷◌, ◌++◌, Option, Some, None, Bool, true, false, refl, ap, ◌∙◌}
 use Rattle.std.specs.Prelude.{codes}
 use Rattle.f_lex.specs.declared.token.Mark.{Mark}
 use Rattle.f_lex.specs.declared.token.Mark.TheVariants as mark

@@ -1,5 +1,5 @@
 -- The tokens of constructs are those of their statements (ISO/IEC 1539-1:2018, 11.1).
-use Rattle.std.proofs.Common.{◌≡◌, List, [], ◌∷◌, ◌++◌, Option, Some, None, Bool, true, false, ◌&&◌, map, refl, sym, ap, subst, ◌∙◌}
+use Rattle.std.proofs.Common.{◌≡◌, List, [], ◌∷◌, ◌++◌, Option, Some, None, Bool, true, ◌&&◌, map, refl, sym, ap, subst, ◌∙◌}
 use Rattle.std.specs.Prelude.{codes}
 use Rattle.std.specs.Option.{option_map}
 use Rattle.f_lex.specs.declared.token.Token.{Token}
@@ -25,7 +25,7 @@ use Rattle.f_tree.specs.Statements.{statement_step, case_step, do_step, else_ste
 use Rattle.f_line_grammar.specs.Lines as line
 use Rattle.f_statement_grammar.specs.Statements.{Statement, spell_statement}
 use Rattle.f_construct_parts.specs.Lines.{Front as LinesFront, each as each_said, optional as optional_said, blocks_of, end_line, else_line, action_line, guarded_line, if_line, else_if_line, loop_line, select_case_line, case_line, select_rank_line, rank_line, statement_step as statement_said, case_step as case_said, do_step as do_said, else_step as else_said, else_if_step as else_if_said, if_step as if_said, rank_step as rank_said, select_step as select_said, select_rank_step as select_rank_said, lines_of, case_lines, do_lines, else_lines, else_if_lines, if_lines, rank_lines, select_lines, select_rank_lines}
-use Rattle.f_spelling_laws.specs.Told.{tokens_of, all, maybe, is_told, action_told, control_told, choice_told, rank_told, construct_end_told, construct_told, case_told, do_told, else_told, else_if_told, if_told, rank_part_told, select_told, select_rank_told, construct_is_told, case_is_told, do_is_told, else_is_told, else_if_is_told, if_is_told, rank_is_told, select_is_told, select_rank_is_told}
+use Rattle.f_spelling_laws.specs.Told.{tokens_of, all, maybe, is_told, control_told, choice_told, rank_told, construct_end_told, construct_told, case_told, do_told, else_told, else_if_told, if_told, rank_part_told, select_told, select_rank_told, construct_is_told, case_is_told, do_is_told, else_is_told, else_if_is_told, if_is_told, rank_is_told, select_is_told, select_rank_is_told}
 use Rattle.f_spelling_laws.specs.Statements.{spell_statements}
 use Rattle.f_spelling_laws.proofs.Fronts.{first_of, second_of}
 use Rattle.f_spelling_laws.proofs.Lines.{action_line_spelled, guarded_line_spelled, if_line_spelled, else_if_line_spelled, loop_line_spelled, select_line_spelled, case_line_spelled, select_rank_line_spelled, rank_line_spelled, end_line_spelled}
@@ -281,19 +281,19 @@ case_shown : (y : CaseLayer) → case_asked y ≡ true → (behind : List Token)
 case_shown y sure behind rest ss follows =
     let a : Bool = all (map construct_is_told (map (λ x. x.0) y.body)) in
     one_more (case_line y.choice) behind (each_said (map lines_of (map (λ x. x.0) y.body)) ss) (case_line_spelled y.place y.choice (first_of (choice_told y.choice) a sure) (each (map statement (map (λ x. x.0) y.body)) rest))
-        (bodies_follow y.body (second_of (choice_told y.choice) a sure) behind rest ss follows)
+    (bodies_follow y.body (second_of (choice_told y.choice) a sure) behind rest ss follows)
 
 rank_shown : (y : RankCaseLayer) → rank_asked y ≡ true → (behind : List Token) (rest : List Lexeme) (ss : List Statement) → Follows behind rest ss → Follows behind (rank_front y rest) (rank_layer_lines y ss)
 rank_shown y sure behind rest ss follows =
     let a : Bool = all (map construct_is_told (map (λ x. x.0) y.body)) in
     one_more (rank_line y.choice) behind (each_said (map lines_of (map (λ x. x.0) y.body)) ss) (rank_line_spelled y.place y.choice (first_of (rank_told y.choice) a sure) (each (map statement (map (λ x. x.0) y.body)) rest))
-        (bodies_follow y.body (second_of (rank_told y.choice) a sure) behind rest ss follows)
+    (bodies_follow y.body (second_of (rank_told y.choice) a sure) behind rest ss follows)
 
 else_if_shown : (y : ElseIfLayer) → else_if_asked y ≡ true → (behind : List Token) (rest : List Lexeme) (ss : List Statement) → Follows behind rest ss → Follows behind (else_if_front y rest) (else_if_layer_lines y ss)
 else_if_shown y sure behind rest ss follows =
     let a : Bool = all (map construct_is_told (map (λ x. x.0) y.body)) in
     one_more (else_if_line y.is_one_word y.condition) behind (each_said (map lines_of (map (λ x. x.0) y.body)) ss) (else_if_line_spelled y.place y.is_one_word y.condition (first_of (is_told y.condition) a sure) (each (map statement (map (λ x. x.0) y.body)) rest))
-        (bodies_follow y.body (second_of (is_told y.condition) a sure) behind rest ss follows)
+    (bodies_follow y.body (second_of (is_told y.condition) a sure) behind rest ss follows)
 
 else_shown : (y : ElseLayer) → else_asked y ≡ true → (behind : List Token) (rest : List Lexeme) (ss : List Statement) → Follows behind rest ss → Follows behind (else_front y rest) (else_layer_lines y ss)
 else_shown y sure behind rest ss follows = one_more else_line behind (each_said (map lines_of (map (λ x. x.0) y.body)) ss) refl (bodies_follow y.body sure behind rest ss follows)
@@ -305,8 +305,8 @@ do_shown y sure behind rest ss follows =
     let c : Bool = control_told y.control in
     let end : List Lexeme = ending (codes "do") (codes "enddo") y.ending rest in
     one_more (loop_line y.control) behind (each_said (map lines_of (map (λ x. x.0) y.body)) (end_line line.Do y.ending ∷ ss)) (loop_line_spelled y.place y.control (first_of c (a && e) sure) (each (map statement (map (λ x. x.0) y.body)) end))
-        (bodies_follow y.body (first_of a e (second_of c (a && e) sure)) behind end (end_line line.Do y.ending ∷ ss)
-            (end_follows line.Do y.ending (second_of a e (second_of c (a && e) sure)) behind rest ss follows))
+    (bodies_follow y.body (first_of a e (second_of c (a && e) sure)) behind end (end_line line.Do y.ending ∷ ss)
+    (end_follows line.Do y.ending (second_of a e (second_of c (a && e) sure)) behind rest ss follows))
 
 select_shown : (y : SelectCaseLayer) → select_asked y ≡ true → (behind : List Token) (rest : List Lexeme) (ss : List Statement) → Follows behind rest ss → Follows behind (select_front y rest) (select_layer_lines y ss)
 select_shown y sure behind rest ss follows =
@@ -315,8 +315,8 @@ select_shown y sure behind rest ss follows =
     let c : Bool = is_told y.selector in
     let end : List Lexeme = ending (codes "select") (codes "endselect") y.ending rest in
     one_more (select_case_line y.is_one_word y.selector) behind (each_said (map case_lines (map (λ x. x.0) y.cases)) (end_line line.Select y.ending ∷ ss)) (select_line_spelled y.place y.is_one_word y.selector (first_of c (a && e) sure) (each (map case_block (map (λ x. x.0) y.cases)) end))
-        (cases_follow y.cases (first_of a e (second_of c (a && e) sure)) behind end (end_line line.Select y.ending ∷ ss)
-            (end_follows line.Select y.ending (second_of a e (second_of c (a && e) sure)) behind rest ss follows))
+    (cases_follow y.cases (first_of a e (second_of c (a && e) sure)) behind end (end_line line.Select y.ending ∷ ss)
+    (end_follows line.Select y.ending (second_of a e (second_of c (a && e) sure)) behind rest ss follows))
 
 select_rank_shown : (y : SelectRankLayer) → select_rank_asked y ≡ true → (behind : List Token) (rest : List Lexeme) (ss : List Statement) → Follows behind rest ss → Follows behind (select_rank_front y rest) (select_rank_layer_lines y ss)
 select_rank_shown y sure behind rest ss follows =
@@ -324,7 +324,7 @@ select_rank_shown y sure behind rest ss follows =
     let e : Bool = construct_end_told y.ending in
     let end : List Lexeme = ending (codes "select") (codes "endselect") y.ending rest in
     one_more (select_rank_line y.renamed y.selector) behind (each_said (map rank_lines (map (λ x. x.0) y.ranks)) (end_line line.Select y.ending ∷ ss)) (select_rank_line_spelled y.place y.renamed y.selector (each (map rank_block (map (λ x. x.0) y.ranks)) end))
-        (ranks_follow y.ranks (first_of a e sure) behind end (end_line line.Select y.ending ∷ ss) (end_follows line.Select y.ending (second_of a e sure) behind rest ss follows))
+    (ranks_follow y.ranks (first_of a e sure) behind end (end_line line.Select y.ending ∷ ss) (end_follows line.Select y.ending (second_of a e sure) behind rest ss follows))
 
 otherwise_follows : (other : Option ShownElse) → maybe (option_map else_is_told (option_map (λ x. x.0) other)) ≡ true → (behind : List Token) (rest : List Lexeme) (ss : List Statement) → Follows behind rest ss →
     Follows behind (optional (option_map else_block (option_map (λ x. x.0) other)) rest) (optional_said (option_map else_lines (option_map (λ x. x.0) other)) ss)
@@ -341,7 +341,7 @@ if_shown y = of y.otherwise
         (is_told y.condition && (all (map construct_is_told (map (λ x. x.0) y.body)) && (all (map else_if_is_told (map (λ x. x.0) y.else_ifs)) && (maybe (option_map else_is_told (option_map (λ x. x.0) other)) && construct_end_told y.ending)))) ≡ true →
         (behind : List Token) (rest : List Lexeme) (ss : List Statement) → Follows behind rest ss →
         Follows behind (if_step (record { place = y.place; condition = y.condition; body = map statement (map (λ x. x.0) y.body); else_ifs = map else_if (map (λ x. x.0) y.else_ifs); otherwise = option_map else_block (option_map (λ x. x.0) other); ending = y.ending }) rest)
-            (if_said (record { place = y.place; condition = y.condition; body = map lines_of (map (λ x. x.0) y.body); else_ifs = map else_if_lines (map (λ x. x.0) y.else_ifs); otherwise = option_map else_lines (option_map (λ x. x.0) other); ending = y.ending }) ss)
+        (if_said (record { place = y.place; condition = y.condition; body = map lines_of (map (λ x. x.0) y.body); else_ifs = map else_if_lines (map (λ x. x.0) y.else_ifs); otherwise = option_map else_lines (option_map (λ x. x.0) other); ending = y.ending }) ss)
     inside other sure behind rest ss follows =
         let c : Bool = is_told y.condition in
         let a : Bool = all (map construct_is_told (map (λ x. x.0) y.body)) in
@@ -358,15 +358,14 @@ if_shown y = of y.otherwise
         let last_said : List Statement = optional_said (option_map else_lines (option_map (λ x. x.0) other)) end_said in
         let elses_said : List Statement = each_said (map else_if_lines (map (λ x. x.0) y.else_ifs)) last_said in
         one_more (if_line y.condition) behind (each_said (map lines_of (map (λ x. x.0) y.body)) elses_said) (if_line_spelled y.place y.condition (first_of c (a && (i && (o && e))) sure) (each (map statement (map (λ x. x.0) y.body)) elses))
-            (bodies_follow y.body (first_of a (i && (o && e)) in_parts) behind elses elses_said
-            (else_ifs_follow y.else_ifs (first_of i (o && e) in_elses) behind last last_said
-            (otherwise_follows other (first_of o e in_last) behind end end_said
-            (end_follows line.If y.ending (second_of o e in_last) behind rest ss follows))))
+        (bodies_follow y.body (first_of a (i && (o && e)) in_parts) behind elses elses_said
+        (else_ifs_follow y.else_ifs (first_of i (o && e) in_elses) behind last last_said
+        (otherwise_follows other (first_of o e in_last) behind end end_said
+        (end_follows line.If y.ending (second_of o e in_last) behind rest ss follows))))
 
     of : (other : Option ShownElse) → if_asked (with_other other) ≡ true → (behind : List Token) (rest : List Lexeme) (ss : List Statement) → Follows behind rest ss → Follows behind (if_front (with_other other) rest) (if_layer_lines (with_other other) ss)
     of None sure behind rest ss follows = inside None sure behind rest ss follows
     of (Some x) sure behind rest ss follows = inside (Some x) sure behind rest ss follows
-
 
 -- ---- each construct, where its parts have it
 

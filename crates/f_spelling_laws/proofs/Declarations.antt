@@ -1,5 +1,5 @@
 -- The tokens of declarations are those that the grammar spells for their views (ISO/IEC 1539-1:2018, 7.5, 8, 14.2.2 and 15).
-use Rattle.std.proofs.Common.{◌≡◌, ℕ, List, [], ◌∷◌, ◌++◌, Option, Some, None, Bool, true, false, ◌&&◌, map, refl, sym, ap, ◌∙◌}
+use Rattle.std.proofs.Common.{◌≡◌, ℕ, List, [], ◌∷◌, ◌++◌, Option, Some, None, Bool, true, false, ◌&&◌, map, refl, ap, ◌∙◌}
 use Rattle.std.specs.Prelude.{codes}
 use Rattle.std.specs.Option.{option_map}
 use Rattle.jf_base.specs.declared.place.Place.{Place}
@@ -10,7 +10,6 @@ use Rattle.f_tree.specs.declared.lexeme.Lexeme.{Lexeme}
 use Rattle.f_tree.specs.declared.name.Name.{Name}
 use Rattle.f_tree.specs.declared.declaration.Access.{Access}
 use Rattle.f_tree.specs.declared.declaration.Access.TheVariants.{Public, Private}
-use Rattle.f_tree.specs.declared.declaration.Intent.{Intent}
 use Rattle.f_tree.specs.declared.declaration.Intent.TheVariants.{In, Out, InOut, InOutTwoWords}
 use Rattle.f_tree.specs.declared.declaration.Bind.{Bind}
 use Rattle.f_tree.specs.declared.declaration.BindingName.{BindingName}
@@ -44,17 +43,17 @@ use Rattle.f_tree.specs.declared.unit.Prefix.TheVariants as prefix_form
 use Rattle.f_tree.specs.declared.unit.Suffix.{Suffix}
 use Rattle.f_tree.specs.declared.unit.Suffix.TheVariants as suffix_form
 use Rattle.f_tree.specs.declared.unit.Head.{Head}
-use Rattle.f_tree.specs.Lexemes.{Front, lexeme, mark_of, placed_mark, placed_word, word_of, name_of, when, each, behind_commas, listed, in_parentheses, key_of, if_there, statement_end}
-use Rattle.f_tree.specs.Expressions.{expression, type_spec}
+use Rattle.f_tree.specs.Lexemes.{Front, mark_of, placed_mark, placed_word, name_of, when, each, behind_commas, listed, if_there, statement_end}
+use Rattle.f_tree.specs.Expressions.{expression}
 use Rattle.f_tree.specs.Declarations as tree
 use Rattle.f_tree.specs.Units as unit_tree
-use Rattle.f_grammar.specs.Grammar.{Expr, Maybe, Absent, Present, TypeOf, put, spell, spell_maybe, spell_type}
+use Rattle.f_grammar.specs.Grammar.{Maybe, Absent, Present, TypeOf, put, spell, spell_type}
 use Rattle.f_declaration_grammar.specs.Listing.{spell_behind, spell_listed, spell_each}
 use Rattle.f_declaration_grammar.specs.Declarations as grammar
 use Rattle.f_declaration_grammar.specs.Declarations.{front, spell_name, spell_lower, spell_dim, spell_dims, spell_maybe_dims, spell_intent, spell_bind, spell_attr, spell_null, spell_initial, spell_entity, spell_rename, spell_only, spell_uses, spell_colons, spell_intrinsic, spell_type_attr, spell_pointer_attr, spell_is_null, spell_pointer, spell_prefix, spell_suffix, spell_dummies, spell_declared}
-use Rattle.f_expr_read.specs.Views.{view, view_type, view_maybe}
-use Rattle.f_declared.specs.Views.{view_name, view_dimension, view_dimensions, view_access, view_intent, label_of, view_bind, view_form, view_attribute, initial_of, view_entity, view_rename, view_only, view_uses, view_type_attribute, view_pointer_attribute, begins_null, view_pointer, view_prefix, view_suffix, is_function, view_head, view_use, view_import, view_variables, view_access_statement, view_procedure_pointers}
-use Rattle.f_spelling_laws.specs.Told.{tokens_of, all, maybe, maybe_told, is_told, type_is_told, dimension_told, dimensions_told, maybe_dimensions_told, form_told, attribute_told, initial_told, entity_told, variables_told, list_told, use_told, prefix_told, head_told}
+use Rattle.f_expr_read.specs.Views.{view, view_type}
+use Rattle.f_declared.specs.Views.{view_name, view_dimension, view_dimensions, view_access, label_of, view_bind, view_form, view_attribute, initial_of, view_entity, view_rename, view_only, view_uses, view_type_attribute, view_pointer_attribute, begins_null, view_pointer, view_prefix, view_suffix, is_function, view_head, view_use, view_import, view_variables, view_access_statement, view_procedure_pointers}
+use Rattle.f_spelling_laws.specs.Told.{tokens_of, all, maybe, is_told, type_is_told, dimension_told, dimensions_told, maybe_dimensions_told, form_told, attribute_told, initial_told, entity_told, variables_told, list_told, use_told, prefix_told, head_told}
 use Rattle.f_spelling_laws.proofs.Fronts.{first_of, second_of}
 use Rattle.f_spelling_laws.proofs.Ahead.{Carries, then_carries, carries, maybe_carries, type_carries}
 use Rattle.f_spelling_laws.proofs.Expressions.{expressions_spelled, types_spelled}
@@ -342,10 +341,10 @@ pointers_spelled p rest =
     let behind : List Lexeme = mark_of mark.DoubleColon (listed (map tree.procedure_pointer p.pointers) rest) in
     let names : List Token = put mark.DoubleColon (spell_listed spell_pointer (map view_pointer p.pointers) []) in
     ap (λ (ts : List Token). front (codes "procedure") (put mark.Open (front p.interface.bytes (put mark.Close (put mark.Comma (front (codes "pointer") ts))))))
-        (behind_spelled tree.pointer_attribute view_pointer_attribute spell_pointer_attr always pointer_attribute_spelled p.attributes (always_all p.attributes) behind
-        ∙ ap (λ (ts : List Token). spell_behind spell_pointer_attr (map view_pointer_attribute p.attributes) (put mark.DoubleColon ts))
-            (listed_spelled tree.procedure_pointer view_pointer spell_pointer always pointer_spelled p.pointers (always_all p.pointers) rest ∙ listed_carry spell_pointer pointer_carries (map view_pointer p.pointers) [] (tokens_of rest))
-        ∙ behind_carry spell_pointer_attr pointer_attr_carries (map view_pointer_attribute p.attributes) names (tokens_of rest))
+    (behind_spelled tree.pointer_attribute view_pointer_attribute spell_pointer_attr always pointer_attribute_spelled p.attributes (always_all p.attributes) behind
+    ∙ ap (λ (ts : List Token). spell_behind spell_pointer_attr (map view_pointer_attribute p.attributes) (put mark.DoubleColon ts))
+    (listed_spelled tree.procedure_pointer view_pointer spell_pointer always pointer_spelled p.pointers (always_all p.pointers) rest ∙ listed_carry spell_pointer pointer_carries (map view_pointer p.pointers) [] (tokens_of rest))
+    ∙ behind_carry spell_pointer_attr pointer_attr_carries (map view_pointer_attribute p.attributes) names (tokens_of rest))
 
 -- ---- the first statements of derived types and procedures
 
@@ -399,8 +398,8 @@ head_spelled h sure rest =
     let dummies : List Token = spell_dummies (option_map (map view_name) h.dummies) suffixes in
     each_spelled unit_tree.prefix view_prefix spell_prefix prefix_told prefix_spelled h.prefixes sure (placed_word (unit_tree.procedure_word h.kind) h.place (name_of h.name (if_there unit_tree.dummies h.dummies last)))
     ∙ ap (spell_each spell_prefix (map view_prefix h.prefixes))
-        (λ i. front (kind_is h.kind i) (front h.name.bytes ((dummies_spelled h.dummies last
-        ∙ ap (spell_dummies (option_map (map view_name) h.dummies)) (each_spelled unit_tree.suffix view_suffix spell_suffix always suffix_spelled h.suffixes (always_all h.suffixes) ends
-            ∙ each_carry spell_suffix suffix_carries (map view_suffix h.suffixes) [] (tokens_of ends))
-        ∙ dummies_carry (option_map (map view_name) h.dummies) suffixes (tokens_of ends)) i)))
+    (λ i. front (kind_is h.kind i) (front h.name.bytes ((dummies_spelled h.dummies last
+    ∙ ap (spell_dummies (option_map (map view_name) h.dummies)) (each_spelled unit_tree.suffix view_suffix spell_suffix always suffix_spelled h.suffixes (always_all h.suffixes) ends
+    ∙ each_carry spell_suffix suffix_carries (map view_suffix h.suffixes) [] (tokens_of ends))
+    ∙ dummies_carry (option_map (map view_name) h.dummies) suffixes (tokens_of ends)) i)))
     ∙ each_carry spell_prefix prefix_carries (map view_prefix h.prefixes) (front (grammar.unit_word (is_function h.kind)) (front h.name.bytes dummies)) (tokens_of ends)

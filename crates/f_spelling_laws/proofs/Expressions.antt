@@ -23,11 +23,11 @@ use Rattle.f_tree.specs.declared.expression.Argument.TheOpen as open_
 use Rattle.f_tree.specs.declared.expression.Argument.TheOpen.{Argument-F, CharacterParameter-F, Expression-F, TypeSpec-F, KindSelector-F, Link-F, Part-F, Range-F, Reference-F}
 use Rattle.f_tree.specs.declared.expression.Argument.TheFolds.{map-CharacterParameter, map-Expression, map-TypeSpec, map-KindSelector, map-Link, map-Part, map-Range, map-Reference, fold-roll-CharacterParameter, fold-roll-Expression, fold-roll-TypeSpec, fold-roll-KindSelector, fold-roll-Link, fold-roll-Part, fold-roll-Range, fold-roll-Reference, ind-Expression, ind-TypeSpec, ind-Reference}
 use Rattle.f_tree.specs.declared.expression.Argument.TheViews.{roll-CharacterParameter, roll-Expression, roll-TypeSpec, roll-KindSelector, roll-Link, roll-Part, roll-Range, roll-Reference}
-use Rattle.f_tree.specs.Lexemes.{Front, mark_of, placed_mark, placed_word, name_of, when, optional, each, behind_commas, listed, in_parentheses, optional_list, key_of, placed_key, name_key}
-use Rattle.f_tree.specs.Expressions.{sign_of, constructor_type, behind_percents, optional_range, stride_of, argument_step, parameter_step, expression_step, type_step, kind_step, link_step, part_step, range_step, reference_step, argument, parameter, expression, type_spec, kind_selector, link, part, range, reference}
-use Rattle.f_grammar.specs.Grammar.{Expr, Links, Refer, Parts, Part, Range, Args, Arg, Maybe, TypeOf, Selector, More, Param, put, spell_sign, spell_key, spell_word, spell, spell_links, spell_refer, spell_parts, spell_part, spell_group, spell_range, spell_args, spell_others, spell_arg, spell_maybe, spell_stride, spell_type, spell_kind, spell_params, spell_mores, spell_param, no_args, no_links, no_parts, no_more}
-use Rattle.f_expr_read.specs.Views.{keyword_of, links_of, parts_of, args_of, items_of, mores_of, params_of, maybe_of, group_of, range_of, selector_of, constructor_of, character_of, argument_seen, parameter_seen, expression_seen, type_seen, kind_seen, link_seen, part_seen, range_seen, reference_seen, view_argument, view_parameter, view, view_type, view_kind, view_link, view_part, view_range, view_reference, mark_of as sign_mark}
-use Rattle.f_spelling_laws.specs.Told.{tokens_of, all, maybe, maybe_all, some_all, maybe_some_all, argument_told, parameter_told, expression_told, type_told, kind_told, link_told, part_told, range_told, reference_told, argument_is_told, parameter_is_told, is_told, type_is_told, kind_is_told, link_is_told, part_is_told, range_is_told, reference_is_told}
+use Rattle.f_tree.specs.Lexemes.{Front, mark_of, placed_mark, name_of, when, optional, each, behind_commas, listed, in_parentheses, optional_list, key_of, placed_key, name_key}
+use Rattle.f_tree.specs.Expressions.{sign_of, behind_percents, optional_range, stride_of, argument_step, parameter_step, expression_step, type_step, kind_step, link_step, part_step, range_step, reference_step, argument, parameter, expression, type_spec, kind_selector, link, part, range, reference}
+use Rattle.f_grammar.specs.Grammar.{Expr, Refer, Part, Range, Arg, TypeOf, Selector, Param, put, spell_sign, spell_key, spell_word, spell, spell_links, spell_refer, spell_parts, spell_part, spell_group, spell_range, spell_args, spell_others, spell_arg, spell_maybe, spell_stride, spell_type, spell_kind, spell_mores, spell_param}
+use Rattle.f_expr_read.specs.Views.{keyword_of, links_of, parts_of, args_of, items_of, mores_of, maybe_of, group_of, range_of, selector_of, argument_seen, parameter_seen, expression_seen, type_seen, kind_seen, link_seen, part_seen, range_seen, reference_seen, view_argument, view_parameter, view, view_type, view_kind, view_link, view_part, view_range, view_reference, mark_of as sign_mark}
+use Rattle.f_spelling_laws.specs.Told.{tokens_of, all, maybe, maybe_all, argument_told, parameter_told, expression_told, type_told, kind_told, link_told, part_told, range_told, reference_told, argument_is_told, parameter_is_told, is_told, type_is_told, kind_is_told, link_is_told, part_is_told, range_is_told, reference_is_told}
 use Rattle.f_spelling_laws.proofs.Fronts.{first_of, second_of}
 
 -- a link, and a substring range, in front of a rest
@@ -455,7 +455,6 @@ reference_shown y sure rest =
     let a : Bool = all (map part_is_told (map (λ x. x.0) y.others)) in
     y.first.1 (first_of (part_is_told y.first.0) a sure) (behind_percents (map part (map (λ x. x.0) y.others)) rest)
     ∙ ap (spell_part (view_part y.first.0)) (parts_agree y.others (second_of (part_is_told y.first.0) a sure) rest)
-
 
 -- ---- each tree, where its parts have it
 

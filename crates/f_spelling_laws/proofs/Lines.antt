@@ -1,7 +1,6 @@
 -- The tokens of statements that begin, divide and end constructs are those that the grammar spells (ISO/IEC 1539-1:2018, 11.1).
-use Rattle.std.proofs.Common.{◌≡◌, ℕ, List, [], ◌∷◌, ◌++◌, Option, Some, None, Bool, true, false, ◌&&◌, map, refl, sym, ap, ◌∙◌}
+use Rattle.std.proofs.Common.{◌≡◌, List, [], ◌∷◌, ◌++◌, Option, Some, None, Bool, true, false, ◌&&◌, map, refl, ap, ◌∙◌}
 use Rattle.std.specs.Prelude.{codes}
-use Rattle.std.specs.Option.{option_map}
 use Rattle.jf_base.specs.declared.place.Place.{Place}
 use Rattle.f_lex.specs.declared.token.Mark.TheVariants as mark
 use Rattle.f_lex.specs.declared.token.Token.{Token}
@@ -21,20 +20,19 @@ use Rattle.f_tree.specs.declared.statement.CaseChoice.{CaseChoice}
 use Rattle.f_tree.specs.declared.statement.CaseChoice.TheVariants as choice
 use Rattle.f_tree.specs.declared.statement.RankChoice.{RankChoice}
 use Rattle.f_tree.specs.declared.statement.RankChoice.TheVariants as rank
-use Rattle.f_tree.specs.Lexemes.{Front, mark_of, placed_mark, placed_word, word_of, name_of, when, in_parentheses, behind_commas, listed, if_there, statement_end}
+use Rattle.f_tree.specs.Lexemes.{mark_of, placed_word, word_of, name_of, when, in_parentheses, behind_commas, if_there, statement_end}
 use Rattle.f_tree.specs.Expressions.{expression}
-use Rattle.f_tree.specs.Declarations.{ending, ending_words}
+use Rattle.f_tree.specs.Declarations.{ending}
 use Rattle.f_tree.specs.Statements.{action, condition_of, then_line, else_if_words, select_words, behind_comma, loop_control, case_range, case_choice, rank_choice, rank_selector}
-use Rattle.f_grammar.specs.Grammar.{Expr, Maybe, Absent, Present, put, spell, spell_maybe}
+use Rattle.f_grammar.specs.Grammar.{Expr, put, spell, spell_maybe}
 use Rattle.f_grammar.specs.Actions.{spell_act}
-use Rattle.f_line_grammar.specs.Lines as line
-use Rattle.f_line_grammar.specs.Lines.{Span, One, From, UpTo, Spans, no_spans, span, spell_test, spell_span, spell_spans, spell_comma, spell_step, spell_control, spell_line, construct_word, joined_word, Construct}
+use Rattle.f_line_grammar.specs.Lines.{Span, One, From, UpTo, Spans, no_spans, span, spell_test, spell_span, spell_spans, spell_comma, spell_step, spell_control, construct_word, joined_word, Construct}
 use Rattle.f_statement_grammar.specs.Statements.{spell_statement}
 use Rattle.f_expr_read.specs.Views.{view, view_maybe}
 use Rattle.f_action_read.specs.Actions.{view_action}
 use Rattle.f_line_read.specs.Lines.{view_control, view_range, spans_of}
-use Rattle.f_construct_parts.specs.Lines.{action_line, guarded_line, if_line, else_if_line, else_line, loop_line, select_case_line, case_line, select_rank_line, rank_line, end_line}
-use Rattle.f_spelling_laws.specs.Told.{tokens_of, all, maybe, maybe_told, is_told, action_told, control_told, values_told, choice_told, rank_told, construct_end_told}
+use Rattle.f_construct_parts.specs.Lines.{action_line, guarded_line, if_line, else_if_line, loop_line, select_case_line, case_line, select_rank_line, rank_line, end_line}
+use Rattle.f_spelling_laws.specs.Told.{tokens_of, all, maybe_told, is_told, action_told, control_told, values_told, choice_told, rank_told, construct_end_told}
 use Rattle.f_spelling_laws.proofs.Fronts.{first_of, second_of}
 use Rattle.f_spelling_laws.proofs.Ahead.{Carries, carries, maybe_carries}
 use Rattle.f_spelling_laws.proofs.Expressions.{expressions_spelled}
@@ -77,14 +75,14 @@ control_spelled (control.Count comma v first last step) sure rest =
     let firsts : List Token = spell (view first) (put mark.Comma lasts) in
     comma_spelled comma (name_of v (mark_of mark.Assign (expression first (mark_of mark.Comma (expression last behind)))))
     ∙ onto_parts (spell_comma comma) (comma_carries comma) _ (token.Name v.bytes ∷ put mark.Assign firsts) (tokens_of rest)
-        (ap (λ (ts : List Token). token.Name v.bytes ∷ put mark.Assign ts) (expressions_spelled first (first_of (is_told first) (l && s) sure) (mark_of mark.Comma (expression last behind))
-        ∙ onto_parts (spell (view first)) (carries (view first)) _ (put mark.Comma lasts) (tokens_of rest)
-            (ap (put mark.Comma) (expressions_spelled last (first_of l s (second_of (is_told first) (l && s) sure)) behind
-            ∙ onto_parts (spell (view last)) (carries (view last)) _ steps (tokens_of rest) (step_spelled step (second_of l s (second_of (is_told first) (l && s) sure)) rest)))))
+    (ap (λ (ts : List Token). token.Name v.bytes ∷ put mark.Assign ts) (expressions_spelled first (first_of (is_told first) (l && s) sure) (mark_of mark.Comma (expression last behind))
+    ∙ onto_parts (spell (view first)) (carries (view first)) _ (put mark.Comma lasts) (tokens_of rest)
+    (ap (put mark.Comma) (expressions_spelled last (first_of l s (second_of (is_told first) (l && s) sure)) behind
+    ∙ onto_parts (spell (view last)) (carries (view last)) _ steps (tokens_of rest) (step_spelled step (second_of l s (second_of (is_told first) (l && s) sure)) rest)))))
 control_spelled (control.While comma e) sure rest =
     comma_spelled comma (word_of (codes "while") (in_parentheses (expression e) rest))
     ∙ onto_parts (spell_comma comma) (comma_carries comma) _ (token.Name (codes "while") ∷ spell_test (view e) []) (tokens_of rest)
-        (ap (λ (ts : List Token). token.Name (codes "while") ∷ ts) (test_spelled e sure rest ∙ test_carries (view e) [] (tokens_of rest)))
+    (ap (λ (ts : List Token). token.Name (codes "while") ∷ ts) (test_spelled e sure rest ∙ test_carries (view e) [] (tokens_of rest)))
 
 -- ---- CASE
 
@@ -159,7 +157,7 @@ case_line_spelled p (choice.Ranges (r ∷ rs)) sure rest =
     let behind : List Lexeme = mark_of mark.Close (statement_end rest) in
     ap (λ (ts : List Token). token.Name (codes "case") ∷ put mark.Open ts) (span_spelled r (first_of (values_told r) a sure) (behind_commas (map case_range rs) behind)
     ∙ onto_parts (spell_span (view_range r)) (span_carries (view_range r)) _ (spell_spans (spans_of (map view_range rs)) (put mark.Close [])) (token.End ∷ tokens_of rest)
-        (spans_spelled rs (second_of (values_told r) a sure) behind ∙ spans_carry (spans_of (map view_range rs)) (put mark.Close []) (token.End ∷ tokens_of rest)))
+    (spans_spelled rs (second_of (values_told r) a sure) behind ∙ spans_carry (spans_of (map view_range rs)) (put mark.Close []) (token.End ∷ tokens_of rest)))
 
 pub select_rank_line_spelled : (p : Place) (renamed : Option Name) (n : Name) (rest : List Lexeme) →
     tokens_of (placed_word (codes "select") p (word_of (codes "rank") (in_parentheses (rank_selector renamed n) (statement_end rest)))) ≡ spell_statement (select_rank_line renamed n) ++ token.End ∷ tokens_of rest

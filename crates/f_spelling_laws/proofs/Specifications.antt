@@ -31,27 +31,25 @@ use Rattle.f_tree.specs.declared.declaration.Declaration.TheOpen as open_
 use Rattle.f_tree.specs.declared.declaration.Declaration.TheOpen.{Declaration-F, Interface-F, InterfaceBody-F, Specification-F}
 use Rattle.f_tree.specs.declared.declaration.Declaration.TheFolds.{map-Interface, map-InterfaceBody, map-Specification, fold-roll-Interface, fold-roll-InterfaceBody, fold-roll-Specification, ind-Specification}
 use Rattle.f_tree.specs.declared.declaration.Declaration.TheViews.{roll-Interface, roll-InterfaceBody, roll-Specification}
-use Rattle.f_tree.specs.Lexemes.{Front, mark_of, placed_word, each, behind_commas, listed, if_there, statement_end}
-use Rattle.f_tree.specs.Expressions.{type_spec}
+use Rattle.f_tree.specs.Lexemes.{Front, mark_of, each, listed, if_there, statement_end}
 use Rattle.f_tree.specs.Declarations as tree
 use Rattle.f_tree.specs.Declarations.{ending}
 use Rattle.f_tree.specs.Units as unit_tree
 use Rattle.f_tree.specs.Units.{procedure_word, joined_word, head, declaration, interface, interface_body, specification, declaration_step, interface_step, body_step, specification_step}
 use Rattle.f_grammar.specs.Grammar.{put, spell_type}
-use Rattle.f_declaration_grammar.specs.Listing.{spell_behind, spell_listed}
+use Rattle.f_declaration_grammar.specs.Listing.{spell_behind}
 use Rattle.f_declaration_grammar.specs.Declarations as grammar
 use Rattle.f_declaration_grammar.specs.Declarations.{front, spell_entity, spell_attr}
 use Rattle.f_statement_grammar.specs.Statements.{Statement, spell_statement}
 use Rattle.f_expr_read.specs.Views.{view_type}
-use Rattle.f_declared.specs.Views.{view_dimensions}
 use Rattle.f_construct_parts.specs.Lines.{Front as LinesFront, each as each_said, optional as optional_said}
-use Rattle.f_unit_parts.specs.Units.{use_line, import_line, implicit_line, variables_line, access_line, save_line, pointers_line, type_line, interface_line, head_line, dimension_of, view_field, component_line, ended, end_line, word_of, use_lines, uses_of, import_lines, implicit_lines, components_of, derived_type_lines, declaration_step as declaration_said, interface_step as interface_said, body_step as body_said, specification_step as specification_said, declaration_lines, interface_lines, body_lines, specification_lines}
-use Rattle.f_spelling_laws.specs.Told.{tokens_of, all, maybe, type_is_told, maybe_dimensions_told, variables_told, field_told, component_told, derived_type_told, use_told, head_told, unit_end_told, declaration_told, interface_told, body_told, specification_told, declaration_is_told, interface_is_told, body_is_told, specification_is_told}
+use Rattle.f_unit_parts.specs.Units.{use_line, import_line, implicit_line, variables_line, access_line, save_line, pointers_line, type_line, interface_line, head_line, dimension_of, view_field, component_line, end_line, word_of, uses_of, import_lines, implicit_lines, components_of, derived_type_lines, declaration_step as declaration_said, interface_step as interface_said, body_step as body_said, specification_step as specification_said, declaration_lines, interface_lines, body_lines, specification_lines}
+use Rattle.f_spelling_laws.specs.Told.{tokens_of, all, type_is_told, maybe_dimensions_told, variables_told, field_told, component_told, derived_type_told, use_told, head_told, unit_end_told, declaration_told, interface_told, body_told, specification_told, declaration_is_told, interface_is_told, body_is_told, specification_is_told}
 use Rattle.f_spelling_laws.specs.Statements.{spell_statements}
 use Rattle.f_spelling_laws.proofs.Fronts.{first_of, second_of}
 use Rattle.f_spelling_laws.proofs.Expressions.{types_spelled}
 use Rattle.f_spelling_laws.proofs.Constructs.{Follows, one_more}
-use Rattle.f_spelling_laws.proofs.Declarations.{listed_spelled, maybe_dimensions_spelled, maybe_dims_carry, dimensions_spelled, declared_carries, variables_spelled, use_spelled, import_spelled, access_spelled, pointers_spelled, type_start_spelled, head_spelled}
+use Rattle.f_spelling_laws.proofs.Declarations.{listed_spelled, maybe_dimensions_spelled, dimensions_spelled, declared_carries, variables_spelled, use_spelled, import_spelled, access_spelled, pointers_spelled, type_start_spelled, head_spelled}
 
 -- ---- single statements
 
@@ -136,7 +134,7 @@ derived_type_follows t sure behind rest ss follows =
     let end : List Lexeme = ending (codes "type") (codes "endtype") t.ending rest in
     let inside : List Lexeme = each (map tree.component t.components) end in
     one_more (type_line t.attributes t.has_colons t.name) behind (components_of t.components (end_line grammar.OfType t.ending ∷ ss)) (type_start_spelled t.place t.attributes t.has_colons t.name (statement_end inside))
-        (components_follow t.components (first_of a e sure) behind end (end_line grammar.OfType t.ending ∷ ss) (end_follows grammar.OfType t.ending (second_of a e sure) behind rest ss follows))
+    (components_follow t.components (first_of a e sure) behind end (end_line grammar.OfType t.ending ∷ ss) (end_follows grammar.OfType t.ending (second_of a e sure) behind rest ss follows))
 
 -- ---- the first statements of a specification
 
@@ -153,7 +151,6 @@ import_follows (Some i) behind rest ss follows = one_more (import_line i) behind
 implicit_follows : (p : Option Place) (behind : List Token) (rest : List Lexeme) (ss : List Statement) → Follows behind rest ss → Follows behind (if_there unit_tree.implicit_line p rest) (optional_said (option_map implicit_lines p) ss)
 implicit_follows None behind rest ss follows = follows
 implicit_follows (Some p) behind rest ss follows = one_more implicit_line behind ss refl follows
-
 
 -- ---- what is shown of each declaration
 
@@ -281,8 +278,8 @@ interface_shown y sure behind rest ss follows =
     let e : Bool = unit_end_told y.ending in
     let end : List Lexeme = ending (codes "interface") (codes "endinterface") y.ending rest in
     one_more (interface_line y.is_abstract) behind (each_said (map body_lines (map (λ x. x.0) y.bodies)) (end_line grammar.OfInterface y.ending ∷ ss))
-        (interface_line_spelled y.is_abstract y.place (each (map interface_body (map (λ x. x.0) y.bodies)) end))
-        (bodies_follow y.bodies (first_of a e sure) behind end (end_line grammar.OfInterface y.ending ∷ ss) (end_follows grammar.OfInterface y.ending (second_of a e sure) behind rest ss follows))
+    (interface_line_spelled y.is_abstract y.place (each (map interface_body (map (λ x. x.0) y.bodies)) end))
+    (bodies_follow y.bodies (first_of a e sure) behind end (end_line grammar.OfInterface y.ending ∷ ss) (end_follows grammar.OfInterface y.ending (second_of a e sure) behind rest ss follows))
 
 body_shown : (y : InterfaceBodyLayer) → body_asked y ≡ true → (behind : List Token) (rest : List Lexeme) (ss : List Statement) → Follows behind rest ss → Follows behind (body_front y rest) (body_layer_lines y ss)
 body_shown y sure behind rest ss follows =
@@ -292,7 +289,7 @@ body_shown y sure behind rest ss follows =
     let end : List Lexeme = ending (procedure_word y.head.kind) (joined_word y.head.kind) y.ending rest in
     let end_said : List Statement = end_line (word_of y.head.kind) y.ending ∷ ss in
     one_more (head_line y.head) behind (specification_lines y.specification.0 end_said) (head_line_spelled y.head (first_of h (s && e) sure) (specification y.specification.0 end))
-        (y.specification.1 (first_of s e (second_of h (s && e) sure)) behind end end_said (procedure_end_follows y.head.kind y.ending (second_of s e (second_of h (s && e) sure)) behind rest ss follows))
+    (y.specification.1 (first_of s e (second_of h (s && e) sure)) behind end end_said (procedure_end_follows y.head.kind y.ending (second_of s e (second_of h (s && e) sure)) behind rest ss follows))
 
 specification_shown : (y : SpecificationLayer) → specification_asked y ≡ true → (behind : List Token) (rest : List Lexeme) (ss : List Statement) → Follows behind rest ss → Follows behind (specification_front y rest) (specification_layer_lines y ss)
 specification_shown y sure behind rest ss follows =
@@ -303,10 +300,9 @@ specification_shown y sure behind rest ss follows =
     let declared_said : List Statement = each_said (map declaration_lines (map (λ x. x.0) y.declarations)) ss in
     let implicit_lines_said : List Statement = optional_said (option_map implicit_lines y.implicit_none) declared_said in
     uses_follow y.uses (first_of u d sure) behind (if_there unit_tree.import_line y.import implicit) (optional_said (option_map import_lines y.import) implicit_lines_said)
-        (import_follows y.import behind implicit implicit_lines_said
-        (implicit_follows y.implicit_none behind declared declared_said
-        (declarations_follow y.declarations (second_of u d sure) behind rest ss follows)))
-
+    (import_follows y.import behind implicit implicit_lines_said
+    (implicit_follows y.implicit_none behind declared declared_said
+    (declarations_follow y.declarations (second_of u d sure) behind rest ss follows)))
 
 -- ---- each declaration, where its parts have it
 

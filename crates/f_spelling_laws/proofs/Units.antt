@@ -1,11 +1,9 @@
 -- The tokens of units are those of their statements (ISO/IEC 1539-1:2018, 5.1, 14 and 15.6.2).
-use Rattle.std.proofs.Common.{◌≡◌, List, [], ◌∷◌, ◌++◌, Option, Some, None, Bool, true, false, ◌&&◌, map, refl, sym, ap, ◌∙◌}
+use Rattle.std.proofs.Common.{◌≡◌, List, [], ◌∷◌, Option, Some, None, Bool, true, ◌&&◌, map, refl}
 use Rattle.std.specs.Prelude.{codes}
 use Rattle.std.specs.Option.{option_map}
 use Rattle.f_lex.specs.declared.token.Token.{Token}
 use Rattle.f_tree.specs.declared.lexeme.Lexeme.{Lexeme}
-use Rattle.f_tree.specs.declared.declaration.Specification.{Specification}
-use Rattle.f_tree.specs.declared.statement.Statement.{Statement as Construct}
 use Rattle.f_tree.specs.declared.unit.Procedure.{Procedure}
 use Rattle.f_tree.specs.declared.unit.Program.{Program}
 use Rattle.f_tree.specs.declared.unit.Module.{Module}
@@ -19,8 +17,7 @@ use Rattle.f_declaration_grammar.specs.Declarations as grammar
 use Rattle.f_statement_grammar.specs.Statements.{Statement}
 use Rattle.f_construct_parts.specs.Lines.{optional, blocks_of}
 use Rattle.f_unit_parts.specs.Units.{head_line, program_line, module_line, contains_line, end_line, word_of, specification_lines, procedure_lines, procedures_of, program_lines, contained_lines, module_lines, unit_lines, units_of}
-use Rattle.f_spelling_laws.specs.Told.{tokens_of, all, maybe, head_told, unit_end_told, construct_is_told, specification_is_told, procedure_told, procedures_told, program_told, module_told, unit_told}
-use Rattle.f_spelling_laws.specs.Statements.{spell_statements}
+use Rattle.f_spelling_laws.specs.Told.{all, maybe, head_told, unit_end_told, construct_is_told, specification_is_told, procedure_told, procedures_told, program_told, module_told, unit_told}
 use Rattle.f_spelling_laws.proofs.Fronts.{first_of, second_of}
 use Rattle.f_spelling_laws.proofs.Constructs.{Follows, one_more, blocks_spelled}
 use Rattle.f_spelling_laws.proofs.Specifications.{end_follows, procedure_end_follows, head_line_spelled, specification_spelled}
@@ -39,9 +36,9 @@ procedure_follows p sure behind rest ss follows =
     let end_said : List Statement = end_line (word_of p.head.kind) p.ending ∷ ss in
     let body_said : List Statement = blocks_of p.body end_said in
     one_more (head_line p.head) behind (specification_lines p.specification body_said) (head_line_spelled p.head (first_of h (s && (b && e)) sure) (specification p.specification body))
-        (specification_spelled p.specification (first_of s (b && e) in_parts) behind body body_said
-        (blocks_spelled p.body (first_of b e in_body) behind end end_said
-        (procedure_end_follows p.head.kind p.ending (second_of b e in_body) behind rest ss follows)))
+    (specification_spelled p.specification (first_of s (b && e) in_parts) behind body body_said
+    (blocks_spelled p.body (first_of b e in_body) behind end end_said
+    (procedure_end_follows p.head.kind p.ending (second_of b e in_body) behind rest ss follows)))
 
 program_follows : (p : Program) → program_told p ≡ true → (behind : List Token) (rest : List Lexeme) (ss : List Statement) → Follows behind rest ss → Follows behind (program p rest) (program_lines p ss)
 unfolding program_lines
@@ -55,9 +52,9 @@ program_follows p sure behind rest ss follows =
     let end_said : List Statement = end_line grammar.OfProgram p.ending ∷ ss in
     let body_said : List Statement = blocks_of p.body end_said in
     one_more (program_line p.name) behind (specification_lines p.specification body_said) refl
-        (specification_spelled p.specification (first_of s (b && e) sure) behind body body_said
-        (blocks_spelled p.body (first_of b e in_body) behind end end_said
-        (end_follows grammar.OfProgram p.ending (second_of b e in_body) behind rest ss follows)))
+    (specification_spelled p.specification (first_of s (b && e) sure) behind body body_said
+    (blocks_spelled p.body (first_of b e in_body) behind end end_said
+    (end_follows grammar.OfProgram p.ending (second_of b e in_body) behind rest ss follows)))
 
 procedures_follow : (ps : List Procedure) → procedures_told ps ≡ true → (behind : List Token) (rest : List Lexeme) (ss : List Statement) → Follows behind rest ss → Follows behind (each (map procedure ps) rest) (procedures_of ps ss)
 procedures_follow [] sure behind rest ss follows = follows
@@ -81,9 +78,9 @@ module_follows m sure behind rest ss follows =
     let end_said : List Statement = end_line grammar.OfModule m.ending ∷ ss in
     let inside_said : List Statement = optional (option_map contained_lines m.procedures) end_said in
     one_more (module_line m.name) behind (specification_lines m.specification inside_said) refl
-        (specification_spelled m.specification (first_of s (c && e) sure) behind inside inside_said
-        (contained_follows m.procedures (first_of c e in_parts) behind end end_said
-        (end_follows grammar.OfModule m.ending (second_of c e in_parts) behind rest ss follows)))
+    (specification_spelled m.specification (first_of s (c && e) sure) behind inside inside_said
+    (contained_follows m.procedures (first_of c e in_parts) behind end end_said
+    (end_follows grammar.OfModule m.ending (second_of c e in_parts) behind rest ss follows)))
 
 pub unit_follows : (u : ProgramUnit) → unit_told u ≡ true → (behind : List Token) (rest : List Lexeme) (ss : List Statement) → Follows behind rest ss → Follows behind (unit u rest) (unit_lines u ss)
 unfolding unit_lines

@@ -1,6 +1,5 @@
 -- What is shown: the tokens of a tree are those that the grammar spells for its view.
-use Rattle.std.specs.Prelude.{◌≡◌, List, [], ◌∷◌, ◌++◌, Bool, true, map}
-use Rattle.f_lex.specs.declared.token.Token.TheVariants as token
+use Rattle.std.specs.Prelude.{◌≡◌, List, [], ◌++◌, true, map}
 use Rattle.f_tree.specs.declared.lexeme.Lexeme.{Lexeme}
 use Rattle.f_tree.specs.declared.expression.Expression.{Expression}
 use Rattle.f_tree.specs.declared.expression.Reference.{Reference}
