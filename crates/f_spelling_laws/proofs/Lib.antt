@@ -8,3 +8,4 @@ pub mod Declarations
 pub mod Specifications
 pub mod Units
 pub mod Whole
+pub mod Endless
