@@ -9,3 +9,4 @@ pub mod Specifications
 pub mod Units
 pub mod Whole
 pub mod Endless
+pub mod Files

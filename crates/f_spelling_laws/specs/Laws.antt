@@ -16,6 +16,10 @@ use Rattle.f_grammar.specs.Grammar.{spell, spell_refer, spell_type}
 use Rattle.f_grammar.specs.Actions.{spell_act}
 use Rattle.f_expr_read.specs.Views.{view, view_reference, view_type}
 use Rattle.f_action_read.specs.Actions.{view_action}
+use Rattle.f_declaration_grammar.specs.Listing.{AreAll}
+use Rattle.f_statement_grammar.specs.Statements.{Statement, FitsStatement}
+use Rattle.f_unit_grammar.specs.Units.{IsFile}
+use Rattle.f_unit_grammar.specs.Rules.{IsText}
 use Rattle.f_construct_parts.specs.Lines.{blocks_of}
 use Rattle.f_unit_parts.specs.Units.{specification_lines, units_of}
 use Rattle.f_spelling_laws.specs.Told.{tokens_of, all, is_told, reference_is_told, type_is_told, action_told, construct_is_told, specification_is_told, unit_told}
@@ -41,3 +45,10 @@ OfSpecifications = (s : Specification) → specification_is_told s ≡ true → 
 
 abbrev pub OfUnits : Type 0
 OfUnits = (us : List ProgramUnit) → all (map unit_told us) ≡ true → (rest : List Lexeme) → tokens_of (each (map unit us) rest) ≡ spell_statements (units_of us []) (tokens_of rest)
+
+-- each statement has at most so many nestings
+abbrev pub Fit : List Statement → Type 0
+Fit ss = AreAll (FitsStatement 65) ss
+
+abbrev pub OfFiles : Type 0
+OfFiles = (us : List ProgramUnit) → all (map unit_told us) ≡ true → IsFile (units_of us []) → Fit (units_of us []) → (text : IsText (tokens_of (each (map unit us) []))) × (text.statements ≡ units_of us [])

@@ -1,6 +1,6 @@
 //! Laws of the tokens that trees stand for.
 
-ghost use Rattle.f_spelling_laws.specs.Laws.{OfExpressions, OfReferences, OfTypes, OfActions, OfBlocks, OfSpecifications, OfUnits};
+ghost use Rattle.f_spelling_laws.specs.Laws.{OfExpressions, OfReferences, OfTypes, OfActions, OfBlocks, OfSpecifications, OfUnits, OfFiles};
 
 /// The tokens of an expression are those that the grammar spells for it (ISO/IEC 1539-1:2018, 10.1).
 pub fn lexemes_of_an_expression()
@@ -35,4 +35,9 @@ pub fn lexemes_of_a_specification()
 /// The tokens of units are those of their statements one after the other, each with its end (5.1 to 5.3).
 pub fn lexemes_are_the_statements()
     ensures { OfUnits }
+{}
+
+/// Where the statements of units are a file, their tokens are the text of a file with the same statements.
+pub fn lexemes_are_a_file()
+    ensures { OfFiles }
 {}
