@@ -10,3 +10,4 @@ pub mod Units
 pub mod Whole
 pub mod Endless
 pub mod Files
+pub mod Texts

@@ -1,5 +1,10 @@
 -- What is shown: the tokens of a tree are those that the grammar spells for its view.
-use Rattle.std.specs.Prelude.{◌≡◌, List, [], ◌++◌, true, map}
+use Rattle.std.specs.Prelude.{◌≡◌, ◌⊎◌, ℕ, List, [], ◌++◌, true, map, ◌∷◌}
+use Rattle.f_lex.specs.declared.token.Spanned.{Spanned}
+use Rattle.f_lex.specs.declared.reader.Fault.{Fault}
+use Rattle.f_lex.specs.Lexing.{Lexes, Breaks}
+use Rattle.f_tree.specs.Text.{text_of}
+use Rattle.f_print_laws.specs.Tokens.{IsOnLengths}
 use Rattle.f_tree.specs.declared.lexeme.Lexeme.{Lexeme}
 use Rattle.f_tree.specs.declared.expression.Expression.{Expression}
 use Rattle.f_tree.specs.declared.expression.Reference.{Reference}
@@ -21,7 +26,7 @@ use Rattle.f_statement_grammar.specs.Statements.{Statement, FitsStatement}
 use Rattle.f_unit_grammar.specs.Units.{IsFile}
 use Rattle.f_unit_grammar.specs.Rules.{IsText}
 use Rattle.f_construct_parts.specs.Lines.{blocks_of}
-use Rattle.f_unit_parts.specs.Units.{specification_lines, units_of}
+use Rattle.f_unit_parts.specs.Units.{specification_lines, unit_lines, units_of}
 use Rattle.f_spelling_laws.specs.Told.{tokens_of, all, is_told, reference_is_told, type_is_told, action_told, construct_is_told, specification_is_told, unit_told}
 use Rattle.f_spelling_laws.specs.Statements.{spell_statements}
 
@@ -52,3 +57,9 @@ Fit ss = AreAll (FitsStatement 65) ss
 
 abbrev pub OfFiles : Type 0
 OfFiles = (us : List ProgramUnit) → all (map unit_told us) ≡ true → IsFile (units_of us []) → Fit (units_of us []) → (text : IsText (tokens_of (each (map unit us) []))) × (text.statements ≡ units_of us [])
+
+-- A unit of a text, printed by itself and read again, has the same statements, or the printed text breaks a rule on lengths (L01, L07, L08).
+abbrev pub OfTexts : Type 0
+OfTexts = (file before other earlier : ℕ) (bytes : List ℕ) (tokens : List Spanned) (front back : List ProgramUnit) (u : ProgramUnit) → Lexes file before bytes tokens
+    → all (map unit_told (front ++ u ∷ back)) ≡ true → map (λ t. t.token) tokens ≡ spell_statements (units_of (front ++ u ∷ back) []) []
+    → ((again : List Spanned) × Lexes other earlier (text_of (unit u [])) again × (map (λ t. t.token) again ≡ spell_statements (unit_lines u []) [])) ⊎ ((fault : Fault) × Breaks earlier (text_of (unit u [])) fault × IsOnLengths fault.rule)
