@@ -1,5 +1,5 @@
 -- No end of a statement stands in what the grammar spells.
-use Rattle.std.proofs.Common.{◌≡◌, ℕ, List, [], ◌∷◌, ◌++◌, Option, Some, None, Bool, true, false, refl, ap, ◌∙◌}
+use Rattle.std.proofs.Common.{ℕ, List, [], ◌∷◌, Option, Some, None, Bool, true, false}
 use Rattle.std.specs.Prelude.{codes}
 use Rattle.f_lex.specs.declared.token.Mark.{Mark}
 use Rattle.f_lex.specs.declared.token.Mark.TheVariants as mark

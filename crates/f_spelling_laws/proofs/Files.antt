@@ -1,9 +1,8 @@
 -- The tokens of units that are a file are those of a file with the same statements.
-use Rattle.std.proofs.Common.{◌≡◌, List, [], ◌∷◌, ◌++◌, Bool, true, map, refl, sym, ap, subst, ◌∙◌}
+use Rattle.std.proofs.Common.{◌≡◌, List, [], ◌∷◌, ◌++◌, true, refl, sym, ap, subst}
 use Rattle.f_lex.specs.declared.token.Token.{Token}
 use Rattle.f_lex.specs.declared.token.Token.TheVariants as token
 use Rattle.f_statement_grammar.specs.Statements.{Statement, spell_statement}
-use Rattle.f_unit_grammar.specs.Units.{IsFile}
 use Rattle.f_unit_grammar.specs.Rules.{cuts, in_first, Cut, HaveForms, IsText}
 use Rattle.f_unit_parts.specs.Units.{units_of}
 use Rattle.f_spelling_laws.specs.Statements.{spell_statements}

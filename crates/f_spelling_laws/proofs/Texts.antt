@@ -1,5 +1,5 @@
 -- Units of a text, printed by themselves and read again.
-use Rattle.std.proofs.Common.{◌≡◌, ◌⊎◌, inl, inr, ℕ, List, [], ◌∷◌, ◌++◌, Bool, true, false, ◌&&◌, map, refl, sym, ap, subst, ◌∙◌, append_assoc}
+use Rattle.std.proofs.Common.{◌≡◌, ◌⊎◌, inl, inr, List, [], ◌∷◌, ◌++◌, Bool, true, false, ◌&&◌, map, refl, sym, ap, subst, ◌∙◌, append_assoc}
 use Rattle.f_lex.specs.declared.token.Token.{Token}
 use Rattle.f_lex.specs.declared.token.Token.TheVariants as token
 use Rattle.f_lex.specs.declared.token.Spanned.{Spanned}
@@ -18,7 +18,7 @@ use Rattle.f_spelling_laws.specs.Told.{tokens_of, all, unit_told}
 use Rattle.f_spelling_laws.specs.Statements.{spell_statements}
 use Rattle.f_spelling_laws.specs.Laws.{OfTexts}
 use Rattle.f_spelling_laws.proofs.Fronts.{first_of, second_of}
-use Rattle.f_spelling_laws.proofs.Units.{unit_follows, units_follow}
+use Rattle.f_spelling_laws.proofs.Units.{unit_follows}
 use Rattle.f_spelling_laws.proofs.Whole.{units}
 
 -- statements in front of a rest
