@@ -11,3 +11,5 @@ pub mod Whole
 pub mod Endless
 pub mod Files
 pub mod Texts
+pub mod Good
+pub mod PlainConstructs
