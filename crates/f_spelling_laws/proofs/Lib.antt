@@ -13,3 +13,4 @@ pub mod Files
 pub mod Texts
 pub mod Good
 pub mod PlainConstructs
+pub mod PlainUnits

@@ -28,6 +28,7 @@ use Rattle.f_unit_grammar.specs.Rules.{IsText}
 use Rattle.f_construct_parts.specs.Lines.{blocks_of}
 use Rattle.f_unit_parts.specs.Units.{specification_lines, unit_lines, units_of}
 use Rattle.f_spelling_laws.specs.Told.{tokens_of, all, is_told, reference_is_told, type_is_told, action_told, construct_is_told, specification_is_told, unit_told}
+use Rattle.f_spelling_laws.specs.Plain.{unit_is_plain}
 use Rattle.f_spelling_laws.specs.Statements.{spell_statements}
 
 abbrev pub OfExpressions : Type 0
@@ -63,3 +64,7 @@ abbrev pub OfTexts : Type 0
 OfTexts = (file before other earlier : ℕ) (bytes : List ℕ) (tokens : List Spanned) (front back : List ProgramUnit) (u : ProgramUnit) → Lexes file before bytes tokens
     → all (map unit_told (front ++ u ∷ back)) ≡ true → map (λ t. t.token) tokens ≡ spell_statements (units_of (front ++ u ∷ back) []) []
     → ((again : List Spanned) × Lexes other earlier (text_of (unit u [])) again × (map (λ t. t.token) again ≡ spell_statements (unit_lines u []) [])) ⊎ ((fault : Fault) × Breaks earlier (text_of (unit u [])) fault × IsOnLengths fault.rule)
+
+-- units of a file are told where no CHARACTER has empty parentheses
+abbrev pub PlainAreTold : Type 0
+PlainAreTold = (us : List ProgramUnit) → all (map unit_is_plain us) ≡ true → IsFile (units_of us []) → Fit (units_of us []) → all (map unit_told us) ≡ true
