@@ -1,6 +1,5 @@
 -- Trees of statements that each fit, where what an executable statement begins is ended by one.
-use Rattle.std.proofs.Common.{◌≡◌, List, [], ◌∷◌, Option, Some, None, Bool, true, false, ◌&&◌, map, refl}
-use Rattle.std.specs.Option.{option_map}
+use Rattle.std.proofs.Common.{◌≡◌, List, [], ◌∷◌, Option, Some, None, true, false, refl}
 use Rattle.f_tree.specs.declared.name.Name.{Name}
 use Rattle.f_tree.specs.declared.declaration.Ending.{Ending}
 use Rattle.f_tree.specs.declared.declaration.EndingForm.{EndingForm}
@@ -18,10 +17,10 @@ use Rattle.f_statement_grammar.specs.Statements.{Statement, FitsStatement}
 use Rattle.f_unit_grammar.specs.Units.{Tree, single, nested, Trees, no_trees, tree, spell_tree, spell_trees}
 use Rattle.f_action_read.specs.Actions.{view_action, no_reference}
 use Rattle.f_unit_laws.specs.Shapes.{bare_ending, bare_choice, Blocks, no_blocks, block}
-use Rattle.f_unit_laws.specs.Derivations.{construct_end, unit_end, values_line, block_tree, block_trees}
+use Rattle.f_unit_laws.specs.Derivations.{construct_end, unit_end, values_line, block_trees}
 use Rattle.f_unit_laws.proofs.Sorts.{is_executable}
 use Rattle.f_unit_laws.proofs.Formed.{IsMatched, AreMatched}
-use Rattle.f_spelling_laws.specs.Told.{action_told, choice_told, construct_end_told, unit_end_told, status_told}
+use Rattle.f_spelling_laws.specs.Told.{action_told, choice_told, construct_end_told, unit_end_told}
 use Rattle.f_spelling_laws.specs.Plain.{action_plain, choice_plain}
 use Rattle.f_spelling_laws.specs.Laws.{Fit}
 

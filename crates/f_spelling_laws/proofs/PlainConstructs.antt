@@ -1,5 +1,5 @@
 -- Constructs whose statements fit, ended as they began, in which no CHARACTER has empty parentheses, are told.
-use Rattle.std.proofs.Common.{◌≡◌, List, [], ◌∷◌, Option, Some, None, Bool, true, false, ◌&&◌, map, refl, sym, ap, subst, ◌∙◌}
+use Rattle.std.proofs.Common.{◌≡◌, List, [], ◌∷◌, Option, Some, None, Bool, true, ◌&&◌, map, refl, sym, subst, ◌∙◌}
 use Rattle.std.proofs.lemmas.Bool.{and_from}
 use Rattle.std.specs.Option.{option_map}
 use Rattle.f_tree.specs.declared.statement.Statement.{Statement as Construct, map-Statement, ind-Statement, roll-Statement, fold-roll-Statement}
@@ -19,7 +19,7 @@ use Rattle.f_grammar.specs.Grammar.{Expr}
 use Rattle.f_line_grammar.specs.Lines as line
 use Rattle.f_line_grammar.specs.Lines.{FitsLine}
 use Rattle.f_unit_grammar.specs.Units.{Trees, no_trees}
-use Rattle.f_unit_laws.specs.Shapes.{Values, RankOf, Block, Blocks, blocks, else_ifs_of, otherwise_of, cases_of, ranks_of, bare_choice, bare_block, bare_blocks, statement_bare, case_bare, do_bare, else_bare, else_if_bare, if_bare, rank_bare, select_bare, select_rank_bare}
+use Rattle.f_unit_laws.specs.Shapes.{Values, RankOf, Block, Blocks, blocks, else_ifs_of, otherwise_of, cases_of, ranks_of, bare_block, bare_blocks, statement_bare, case_bare, do_bare, else_bare, else_if_bare, if_bare, rank_bare, select_bare, select_rank_bare}
 use Rattle.f_unit_laws.specs.Derivations.{values_line, block_tree, block_trees, else_if_trees, otherwise_trees, case_trees, rank_trees}
 use Rattle.f_spelling_laws.specs.Told.{all, maybe, is_told, action_told, control_told, choice_told, rank_told, construct_end_told, construct_told, case_told, do_told, else_told, else_if_told, if_told, rank_part_told, select_told, select_rank_told, construct_is_told, case_is_told, do_is_told, else_is_told, else_if_is_told, if_is_told, rank_is_told, select_is_told, select_rank_is_told}
 use Rattle.f_spelling_laws.specs.Plain.{action_plain, choice_plain, construct_is_plain, statement_plain, case_plain, do_plain, else_plain, else_if_plain, if_plain, rank_plain, select_plain, select_rank_plain}
@@ -339,14 +339,14 @@ do_shown y sure good =
     let a : Bool = all (map construct_is_plain (map (λ x. x.0) y.body)) in
     let b : Bool = all (map construct_is_told (map (λ x. x.0) y.body)) in
     and_from (control_told y.control) (b && construct_end_told y.ending) (first_of (control_told y.control) a sure)
-        (and_from b (construct_end_told y.ending) (bodies_told y.body (second_of (control_told y.control) a sure) good.1) (construct_end_is_told line.Do y.ending good.2))
+    (and_from b (construct_end_told y.ending) (bodies_told y.body (second_of (control_told y.control) a sure) good.1) (construct_end_is_told line.Do y.ending good.2))
 
 select_shown : (y : SelectCaseLayer) → select_asked y ≡ true → GoodTree (block_tree (select_shape y)) → select_answer y ≡ true
 select_shown y sure good =
     let a : Bool = all (map case_is_plain (map (λ x. x.0) y.cases)) in
     let b : Bool = all (map case_is_told (map (λ x. x.0) y.cases)) in
     and_from (is_told y.selector) (b && construct_end_told y.ending) (first_of (is_told y.selector) a sure)
-        (and_from b (construct_end_told y.ending) (cases_told y.cases (second_of (is_told y.selector) a sure) good.1) (construct_end_is_told line.Select y.ending good.2))
+    (and_from b (construct_end_told y.ending) (cases_told y.cases (second_of (is_told y.selector) a sure) good.1) (construct_end_is_told line.Select y.ending good.2))
 
 select_rank_shown : (y : SelectRankLayer) → select_rank_asked y ≡ true → GoodTree (block_tree (select_rank_shape y)) → select_rank_answer y ≡ true
 select_rank_shown y sure good = and_from (all (map rank_is_told (map (λ x. x.0) y.ranks))) (construct_end_told y.ending) (ranks_told y.ranks sure good.1) (construct_end_is_told line.Select y.ending good.2)
@@ -376,14 +376,13 @@ if_shown y = of y.otherwise
         let t : Bool = maybe (option_map else_is_told (option_map (λ x. x.0) other)) in
         let z : Bool = construct_end_told y.ending in
         and_from c (b && (e && (t && z))) (first_of c (a && (i && o)) sure)
-            (and_from b (e && (t && z)) (bodies_told y.body (first_of a (i && o) in_parts) p.0)
-            (and_from e (t && z) q.0
-            (and_from t z (otherwise_told other (second_of i o in_elses) q.1) (construct_end_is_told line.If y.ending good.2))))
+        (and_from b (e && (t && z)) (bodies_told y.body (first_of a (i && o) in_parts) p.0)
+        (and_from e (t && z) q.0
+        (and_from t z (otherwise_told other (second_of i o in_elses) q.1) (construct_end_is_told line.If y.ending good.2))))
 
     of : (other : Option ShownElse) → if_asked (with_other other) ≡ true → GoodTree (block_tree (if_shape (with_other other))) → if_answer (with_other other) ≡ true
     of None sure good = inside None sure good
     of (Some x) sure good = inside (Some x) sure good
-
 
 -- ---- each construct, where its parts have it
 
@@ -391,55 +390,55 @@ statement_layer : (y : StatementLayer) → IsStatement (roll-Statement (plain_st
 statement_layer y sure good =
     fold-roll-Statement Bool Bool Bool Bool Bool Bool Bool Bool Bool construct_told case_told do_told else_told else_if_told if_told rank_part_told select_told select_rank_told (plain_statement y)
     ∙ statement_shown y (sym (fold-roll-Statement Bool Bool Bool Bool Bool Bool Bool Bool Bool statement_plain case_plain do_plain else_plain else_if_plain if_plain rank_plain select_plain select_rank_plain (plain_statement y)) ∙ sure)
-        (subst (λ (v : Block). GoodTree (block_tree v)) (fold-roll-Statement Block (Values × Blocks) Block Blocks (Bool × Expr × Blocks) Block (RankOf × Blocks) Block Block statement_bare case_bare do_bare else_bare else_if_bare if_bare rank_bare select_bare select_rank_bare (plain_statement y)) good)
+    (subst (λ (v : Block). GoodTree (block_tree v)) (fold-roll-Statement Block (Values × Blocks) Block Blocks (Bool × Expr × Blocks) Block (RankOf × Blocks) Block Block statement_bare case_bare do_bare else_bare else_if_bare if_bare rank_bare select_bare select_rank_bare (plain_statement y)) good)
 
 case_layer : (y : CaseLayer) → IsCase (roll-Case (plain_case y))
 case_layer y sure good =
     fold-roll-Case Bool Bool Bool Bool Bool Bool Bool Bool Bool construct_told case_told do_told else_told else_if_told if_told rank_part_told select_told select_rank_told (plain_case y)
     ∙ case_shown y (sym (fold-roll-Case Bool Bool Bool Bool Bool Bool Bool Bool Bool statement_plain case_plain do_plain else_plain else_if_plain if_plain rank_plain select_plain select_rank_plain (plain_case y)) ∙ sure)
-        (subst (λ (v : Values × Blocks). FitsLine 65 (values_line v.0) × GoodTrees (block_trees v.1 no_trees)) (fold-roll-Case Block (Values × Blocks) Block Blocks (Bool × Expr × Blocks) Block (RankOf × Blocks) Block Block statement_bare case_bare do_bare else_bare else_if_bare if_bare rank_bare select_bare select_rank_bare (plain_case y)) good)
+    (subst (λ (v : Values × Blocks). FitsLine 65 (values_line v.0) × GoodTrees (block_trees v.1 no_trees)) (fold-roll-Case Block (Values × Blocks) Block Blocks (Bool × Expr × Blocks) Block (RankOf × Blocks) Block Block statement_bare case_bare do_bare else_bare else_if_bare if_bare rank_bare select_bare select_rank_bare (plain_case y)) good)
 
 do_layer : (y : DoConstructLayer) → IsDoConstruct (roll-DoConstruct (plain_do y))
 do_layer y sure good =
     fold-roll-DoConstruct Bool Bool Bool Bool Bool Bool Bool Bool Bool construct_told case_told do_told else_told else_if_told if_told rank_part_told select_told select_rank_told (plain_do y)
     ∙ do_shown y (sym (fold-roll-DoConstruct Bool Bool Bool Bool Bool Bool Bool Bool Bool statement_plain case_plain do_plain else_plain else_if_plain if_plain rank_plain select_plain select_rank_plain (plain_do y)) ∙ sure)
-        (subst (λ (v : Block). GoodTree (block_tree v)) (fold-roll-DoConstruct Block (Values × Blocks) Block Blocks (Bool × Expr × Blocks) Block (RankOf × Blocks) Block Block statement_bare case_bare do_bare else_bare else_if_bare if_bare rank_bare select_bare select_rank_bare (plain_do y)) good)
+    (subst (λ (v : Block). GoodTree (block_tree v)) (fold-roll-DoConstruct Block (Values × Blocks) Block Blocks (Bool × Expr × Blocks) Block (RankOf × Blocks) Block Block statement_bare case_bare do_bare else_bare else_if_bare if_bare rank_bare select_bare select_rank_bare (plain_do y)) good)
 
 else_layer : (y : ElseLayer) → IsElse (roll-Else (plain_else y))
 else_layer y sure good =
     fold-roll-Else Bool Bool Bool Bool Bool Bool Bool Bool Bool construct_told case_told do_told else_told else_if_told if_told rank_part_told select_told select_rank_told (plain_else y)
     ∙ else_shown y (sym (fold-roll-Else Bool Bool Bool Bool Bool Bool Bool Bool Bool statement_plain case_plain do_plain else_plain else_if_plain if_plain rank_plain select_plain select_rank_plain (plain_else y)) ∙ sure)
-        (subst (λ (v : Blocks). GoodTrees (block_trees v no_trees)) (fold-roll-Else Block (Values × Blocks) Block Blocks (Bool × Expr × Blocks) Block (RankOf × Blocks) Block Block statement_bare case_bare do_bare else_bare else_if_bare if_bare rank_bare select_bare select_rank_bare (plain_else y)) good)
+    (subst (λ (v : Blocks). GoodTrees (block_trees v no_trees)) (fold-roll-Else Block (Values × Blocks) Block Blocks (Bool × Expr × Blocks) Block (RankOf × Blocks) Block Block statement_bare case_bare do_bare else_bare else_if_bare if_bare rank_bare select_bare select_rank_bare (plain_else y)) good)
 
 else_if_layer : (y : ElseIfLayer) → IsElseIf (roll-ElseIf (plain_else_if y))
 else_if_layer y sure good =
     fold-roll-ElseIf Bool Bool Bool Bool Bool Bool Bool Bool Bool construct_told case_told do_told else_told else_if_told if_told rank_part_told select_told select_rank_told (plain_else_if y)
     ∙ else_if_shown y (sym (fold-roll-ElseIf Bool Bool Bool Bool Bool Bool Bool Bool Bool statement_plain case_plain do_plain else_plain else_if_plain if_plain rank_plain select_plain select_rank_plain (plain_else_if y)) ∙ sure)
-        (subst (λ (v : Bool × Expr × Blocks). GoodTrees (block_trees v.2 no_trees)) (fold-roll-ElseIf Block (Values × Blocks) Block Blocks (Bool × Expr × Blocks) Block (RankOf × Blocks) Block Block statement_bare case_bare do_bare else_bare else_if_bare if_bare rank_bare select_bare select_rank_bare (plain_else_if y)) good)
+    (subst (λ (v : Bool × Expr × Blocks). GoodTrees (block_trees v.2 no_trees)) (fold-roll-ElseIf Block (Values × Blocks) Block Blocks (Bool × Expr × Blocks) Block (RankOf × Blocks) Block Block statement_bare case_bare do_bare else_bare else_if_bare if_bare rank_bare select_bare select_rank_bare (plain_else_if y)) good)
 
 if_layer : (y : IfConstructLayer) → IsIfConstruct (roll-IfConstruct (plain_if y))
 if_layer y sure good =
     fold-roll-IfConstruct Bool Bool Bool Bool Bool Bool Bool Bool Bool construct_told case_told do_told else_told else_if_told if_told rank_part_told select_told select_rank_told (plain_if y)
     ∙ if_shown y (sym (fold-roll-IfConstruct Bool Bool Bool Bool Bool Bool Bool Bool Bool statement_plain case_plain do_plain else_plain else_if_plain if_plain rank_plain select_plain select_rank_plain (plain_if y)) ∙ sure)
-        (subst (λ (v : Block). GoodTree (block_tree v)) (fold-roll-IfConstruct Block (Values × Blocks) Block Blocks (Bool × Expr × Blocks) Block (RankOf × Blocks) Block Block statement_bare case_bare do_bare else_bare else_if_bare if_bare rank_bare select_bare select_rank_bare (plain_if y)) good)
+    (subst (λ (v : Block). GoodTree (block_tree v)) (fold-roll-IfConstruct Block (Values × Blocks) Block Blocks (Bool × Expr × Blocks) Block (RankOf × Blocks) Block Block statement_bare case_bare do_bare else_bare else_if_bare if_bare rank_bare select_bare select_rank_bare (plain_if y)) good)
 
 rank_layer : (y : RankCaseLayer) → IsRankCase (roll-RankCase (plain_rank y))
 rank_layer y sure good =
     fold-roll-RankCase Bool Bool Bool Bool Bool Bool Bool Bool Bool construct_told case_told do_told else_told else_if_told if_told rank_part_told select_told select_rank_told (plain_rank y)
     ∙ rank_shown y (sym (fold-roll-RankCase Bool Bool Bool Bool Bool Bool Bool Bool Bool statement_plain case_plain do_plain else_plain else_if_plain if_plain rank_plain select_plain select_rank_plain (plain_rank y)) ∙ sure)
-        (subst (λ (v : RankOf × Blocks). GoodTrees (block_trees v.1 no_trees)) (fold-roll-RankCase Block (Values × Blocks) Block Blocks (Bool × Expr × Blocks) Block (RankOf × Blocks) Block Block statement_bare case_bare do_bare else_bare else_if_bare if_bare rank_bare select_bare select_rank_bare (plain_rank y)) good)
+    (subst (λ (v : RankOf × Blocks). GoodTrees (block_trees v.1 no_trees)) (fold-roll-RankCase Block (Values × Blocks) Block Blocks (Bool × Expr × Blocks) Block (RankOf × Blocks) Block Block statement_bare case_bare do_bare else_bare else_if_bare if_bare rank_bare select_bare select_rank_bare (plain_rank y)) good)
 
 select_layer : (y : SelectCaseLayer) → IsSelectCase (roll-SelectCase (plain_select y))
 select_layer y sure good =
     fold-roll-SelectCase Bool Bool Bool Bool Bool Bool Bool Bool Bool construct_told case_told do_told else_told else_if_told if_told rank_part_told select_told select_rank_told (plain_select y)
     ∙ select_shown y (sym (fold-roll-SelectCase Bool Bool Bool Bool Bool Bool Bool Bool Bool statement_plain case_plain do_plain else_plain else_if_plain if_plain rank_plain select_plain select_rank_plain (plain_select y)) ∙ sure)
-        (subst (λ (v : Block). GoodTree (block_tree v)) (fold-roll-SelectCase Block (Values × Blocks) Block Blocks (Bool × Expr × Blocks) Block (RankOf × Blocks) Block Block statement_bare case_bare do_bare else_bare else_if_bare if_bare rank_bare select_bare select_rank_bare (plain_select y)) good)
+    (subst (λ (v : Block). GoodTree (block_tree v)) (fold-roll-SelectCase Block (Values × Blocks) Block Blocks (Bool × Expr × Blocks) Block (RankOf × Blocks) Block Block statement_bare case_bare do_bare else_bare else_if_bare if_bare rank_bare select_bare select_rank_bare (plain_select y)) good)
 
 select_rank_layer : (y : SelectRankLayer) → IsSelectRank (roll-SelectRank (plain_select_rank y))
 select_rank_layer y sure good =
     fold-roll-SelectRank Bool Bool Bool Bool Bool Bool Bool Bool Bool construct_told case_told do_told else_told else_if_told if_told rank_part_told select_told select_rank_told (plain_select_rank y)
     ∙ select_rank_shown y (sym (fold-roll-SelectRank Bool Bool Bool Bool Bool Bool Bool Bool Bool statement_plain case_plain do_plain else_plain else_if_plain if_plain rank_plain select_plain select_rank_plain (plain_select_rank y)) ∙ sure)
-        (subst (λ (v : Block). GoodTree (block_tree v)) (fold-roll-SelectRank Block (Values × Blocks) Block Blocks (Bool × Expr × Blocks) Block (RankOf × Blocks) Block Block statement_bare case_bare do_bare else_bare else_if_bare if_bare rank_bare select_bare select_rank_bare (plain_select_rank y)) good)
+    (subst (λ (v : Block). GoodTree (block_tree v)) (fold-roll-SelectRank Block (Values × Blocks) Block Blocks (Bool × Expr × Blocks) Block (RankOf × Blocks) Block Block statement_bare case_bare do_bare else_bare else_if_bare if_bare rank_bare select_bare select_rank_bare (plain_select_rank y)) good)
 
 -- ---- all constructs
 

@@ -1,5 +1,5 @@
 -- Specifications and units whose statements fit, ended as they began, in which no CHARACTER has empty parentheses, are told.
-use Rattle.std.proofs.Common.{◌≡◌, List, [], ◌∷◌, Option, Some, None, Bool, true, false, ◌&&◌, map, refl, sym, ap, subst, ◌∙◌}
+use Rattle.std.proofs.Common.{◌≡◌, List, [], ◌∷◌, Option, Some, None, Bool, true, false, ◌&&◌, map, refl, sym, subst, ◌∙◌}
 use Rattle.std.proofs.lemmas.Bool.{and_from}
 use Rattle.std.specs.Prelude.{is_some}
 use Rattle.std.specs.Option.{option_map}
@@ -25,15 +25,14 @@ use Rattle.f_tree.specs.declared.declaration.Declaration.TheFolds.{map-Interface
 use Rattle.f_tree.specs.declared.declaration.Declaration.TheViews.{roll-Interface, roll-InterfaceBody, roll-Specification}
 use Rattle.f_declaration_grammar.specs.Declarations as grammar
 use Rattle.f_declaration_grammar.specs.Declarations.{FitsUses}
-use Rattle.f_unit_grammar.specs.Units.{Tree, nested, Trees, no_trees, tree, IsFile, File}
+use Rattle.f_unit_grammar.specs.Units.{Tree, nested, Trees, no_trees, File}
 use Rattle.f_declared.specs.Views.{view_uses}
-use Rattle.f_unit_parts.specs.Units.{units_of}
-use Rattle.f_unit_laws.specs.Shapes.{Close, Head, Use, used, Import, imported, Declaration, Declarations, no_declarations, declaration, declarations, bodies_of, Specification, specification, bare_ending, bare_head, bare_use, bare_import, derived_type_bare, declaration_bare, interface_bare, body_bare, specification_bare, bare_specification, bare_blocks, bare_procedure, bare_unit}
+use Rattle.f_unit_laws.specs.Shapes.{Close, Head, Use, used, Import, imported, Declaration, Declarations, no_declarations, declaration, declarations, bodies_of, Specification, specification, bare_ending, bare_head, bare_use, bare_import, declaration_bare, interface_bare, body_bare, specification_bare, bare_specification, bare_blocks, bare_procedure, bare_unit}
 use Rattle.f_unit_laws.specs.Derivations.{head_line, procedure_end, use_trees, import_trees, implicit_trees, declaration_tree, declaration_trees, body_trees, specification_trees, block_trees, procedure_tree, procedure_trees, contained_trees, unit_tree, unit_trees, derivation}
 use Rattle.f_unit_laws.proofs.Sorts.{is_executable}
 use Rattle.f_unit_laws.proofs.Formed.{AreMatched, trees_stand}
 use Rattle.f_unit_laws.proofs.Derived.{units_are_derivations}
-use Rattle.f_spelling_laws.specs.Told.{all, maybe, list_told, use_told, head_told, component_told, derived_type_told, unit_end_told, construct_is_told, procedure_told, procedures_told, unit_told, declaration_told, interface_told, body_told, specification_told, declaration_is_told, interface_is_told, body_is_told, specification_is_told}
+use Rattle.f_spelling_laws.specs.Told.{all, maybe, list_told, use_told, head_told, unit_end_told, construct_is_told, procedure_told, procedures_told, unit_told, declaration_told, interface_told, body_told, specification_told, declaration_is_told, interface_is_told, body_is_told, specification_is_told}
 use Rattle.f_spelling_laws.specs.Plain.{derived_type_plain, specification_is_plain, construct_is_plain, procedure_is_plain, procedures_plain, unit_is_plain, declaration_plain, interface_plain, body_plain, specification_plain}
 use Rattle.f_spelling_laws.specs.Laws.{Fit, PlainAreTold}
 use Rattle.f_spelling_laws.proofs.Fronts.{first_of, second_of}
@@ -101,10 +100,10 @@ specification_parts : (s : Specification) (ts : Trees) → GoodTrees (specificat
 specification_parts (specification us i b ds) ts good =
     let declared : Trees = declaration_trees ds ts in
     let alone : Trees = declaration_trees ds no_trees in
-    let keep : GoodTrees declared → GoodTrees alone = λ g. (declaration_parts ds ts g).0 in
-    (use_parts us (import_trees i (implicit_trees b declared)) (import_trees i (implicit_trees b alone)) (import_parts i (implicit_trees b declared) (implicit_trees b alone) (implicit_parts b declared alone keep)) good,
-    (declaration_parts ds ts (implicit_good b declared (import_rest i (implicit_trees b declared) (use_rest us (import_trees i (implicit_trees b declared)) good)))).1)
-
+    let keep : GoodTrees declared → GoodTrees alone = λ g. (declaration_parts ds ts g).0 in (
+      use_parts us (import_trees i (implicit_trees b declared)) (import_trees i (implicit_trees b alone)) (import_parts i (implicit_trees b declared) (implicit_trees b alone) (implicit_parts b declared alone keep)) good,
+      (declaration_parts ds ts (implicit_good b declared (import_rest i (implicit_trees b declared) (use_rest us (import_trees i (implicit_trees b declared)) good)))).1,
+    )
 
 -- ---- each declaration without its places, and whether it is plain
 
@@ -259,8 +258,7 @@ specification_shown y sure good =
     let implicit : Trees = implicit_trees (is_some y.implicit_none) ds in
     let p = uses_are_told y.uses (import_trees (option_map bare_import y.import) implicit) good in
     and_from (all (map use_told y.uses)) (all (map declaration_is_told (map (λ x. x.0) y.declarations))) p.0
-        (declarations_told y.declarations sure (implicit_good (is_some y.implicit_none) ds (import_good y.import implicit p.1)))
-
+    (declarations_told y.declarations sure (implicit_good (is_some y.implicit_none) ds (import_good y.import implicit p.1)))
 
 -- ---- each declaration, where its parts have it
 
@@ -268,25 +266,25 @@ declaration_layer : (y : DeclarationLayer) → IsDeclaration (roll-Declaration (
 declaration_layer y sure good =
     fold-roll-Declaration Bool Bool Bool Bool declaration_told interface_told body_told specification_told (plain_declaration y)
     ∙ declaration_shown y (sym (fold-roll-Declaration Bool Bool Bool Bool declaration_plain interface_plain body_plain specification_plain (plain_declaration y)) ∙ sure)
-        (subst (λ (v : Declaration). GoodTree (declaration_tree v)) (fold-roll-Declaration Declaration Declaration (Head × Specification × Close) Specification declaration_bare interface_bare body_bare specification_bare (plain_declaration y)) good)
+    (subst (λ (v : Declaration). GoodTree (declaration_tree v)) (fold-roll-Declaration Declaration Declaration (Head × Specification × Close) Specification declaration_bare interface_bare body_bare specification_bare (plain_declaration y)) good)
 
 interface_layer : (y : InterfaceLayer) → IsInterface (roll-Interface (plain_interface y))
 interface_layer y sure good =
     fold-roll-Interface Bool Bool Bool Bool declaration_told interface_told body_told specification_told (plain_interface y)
     ∙ interface_shown y (sym (fold-roll-Interface Bool Bool Bool Bool declaration_plain interface_plain body_plain specification_plain (plain_interface y)) ∙ sure)
-        (subst (λ (v : Declaration). GoodTree (declaration_tree v)) (fold-roll-Interface Declaration Declaration (Head × Specification × Close) Specification declaration_bare interface_bare body_bare specification_bare (plain_interface y)) good)
+    (subst (λ (v : Declaration). GoodTree (declaration_tree v)) (fold-roll-Interface Declaration Declaration (Head × Specification × Close) Specification declaration_bare interface_bare body_bare specification_bare (plain_interface y)) good)
 
 body_layer : (y : InterfaceBodyLayer) → IsInterfaceBody (roll-InterfaceBody (plain_body y))
 body_layer y sure good =
     fold-roll-InterfaceBody Bool Bool Bool Bool declaration_told interface_told body_told specification_told (plain_body y)
     ∙ body_shown y (sym (fold-roll-InterfaceBody Bool Bool Bool Bool declaration_plain interface_plain body_plain specification_plain (plain_body y)) ∙ sure)
-        (subst (λ (v : Head × Specification × Close). GoodTree (body_tree v)) (fold-roll-InterfaceBody Declaration Declaration (Head × Specification × Close) Specification declaration_bare interface_bare body_bare specification_bare (plain_body y)) good)
+    (subst (λ (v : Head × Specification × Close). GoodTree (body_tree v)) (fold-roll-InterfaceBody Declaration Declaration (Head × Specification × Close) Specification declaration_bare interface_bare body_bare specification_bare (plain_body y)) good)
 
 specification_layer : (y : SpecificationLayer) → IsSpecification (roll-Specification (plain_specification y))
 specification_layer y sure good =
     fold-roll-Specification Bool Bool Bool Bool declaration_told interface_told body_told specification_told (plain_specification y)
     ∙ specification_shown y (sym (fold-roll-Specification Bool Bool Bool Bool declaration_plain interface_plain body_plain specification_plain (plain_specification y)) ∙ sure)
-        (subst (λ (v : Specification). GoodTrees (specification_trees v no_trees)) (fold-roll-Specification Declaration Declaration (Head × Specification × Close) Specification declaration_bare interface_bare body_bare specification_bare (plain_specification y)) good)
+    (subst (λ (v : Specification). GoodTrees (specification_trees v no_trees)) (fold-roll-Specification Declaration Declaration (Head × Specification × Close) Specification declaration_bare interface_bare body_bare specification_bare (plain_specification y)) good)
 
 -- ---- all specifications
 
@@ -342,7 +340,7 @@ unit_plain_told (unit_form.Module m) sure good =
     let c : Bool = maybe (option_map procedures_told m.procedures) in
     let e : Bool = unit_end_told m.ending in
     and_from s (c && e) (specification_plain_told m.specification (first_of (specification_is_plain m.specification) a sure) q.0)
-        (and_from c e (contained_plain_told m.procedures (second_of (specification_is_plain m.specification) a sure) q.1) (unit_end_is_told grammar.OfModule m.ending good.2))
+    (and_from c e (contained_plain_told m.procedures (second_of (specification_is_plain m.specification) a sure) q.1) (unit_end_is_told grammar.OfModule m.ending good.2))
 unit_plain_told (unit_form.Procedure p) sure good = procedure_plain_told p sure good
 
 units_plain_told : (us : List UnitTree) → all (map unit_is_plain us) ≡ true → GoodTrees (unit_trees (map bare_unit us)) → all (map unit_told us) ≡ true
@@ -355,4 +353,3 @@ pub plain_are_told : PlainAreTold
 plain_are_told us sure file fit =
     let matched : AreMatched (derivation us) = subst AreMatched ((units_are_derivations us).1 file) (trees_stand file.trees 0 File File file.stand).1 in
     units_plain_told us sure (trees_good (derivation us) [] matched (subst Fit (sym (units_are_derivations us).0) fit)).0
-

@@ -1,5 +1,5 @@
--- Units in which no CHARACTER has empty parentheses (ISO/IEC 1539-1:2018, R721).
-use Rattle.std.specs.Prelude.{List, Option, Bool, true, ◌&&◌, map}
+-- Units in which no CHARACTER has empty parentheses (ISO/IEC 1539-1:2018, 7.4.4.2).
+use Rattle.std.specs.Prelude.{List, Bool, true, ◌&&◌, map}
 use Rattle.std.specs.Option.{option_map}
 use Rattle.f_tree.specs.declared.expression.Reference.{Reference}
 use Rattle.f_tree.specs.declared.statement.Action.{Action}

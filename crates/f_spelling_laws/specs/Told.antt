@@ -1,5 +1,5 @@
 -- Trees whose tokens their views tell. The views keep no place, no empty list where the grammar has none, and no words that end nothing, so these are
--- the trees without such: no CHARACTER has empty parentheses (ISO/IEC 1539-1:2018, R721).
+-- the trees without such: no CHARACTER has empty parentheses (ISO/IEC 1539-1:2018, 7.4.4.2).
 use Rattle.std.specs.Prelude.{List, [], ◌∷◌, Option, Some, None, Bool, true, false, ◌&&◌, map, is_none}
 use Rattle.std.specs.Option.{option_map}
 use Rattle.f_lex.specs.declared.token.Token.{Token}
@@ -171,7 +171,7 @@ kind_is_told = fold-KindSelector Bool Bool Bool Bool Bool Bool Bool Bool Bool ar
 abbrev pub parameter_is_told : CharacterParameter → Bool
 parameter_is_told = fold-CharacterParameter Bool Bool Bool Bool Bool Bool Bool Bool Bool argument_told parameter_told expression_told type_told kind_told link_told part_told range_told reference_told
 
--- ---- action statements: some objects, targets and so on are there (R927, R940, R939, R1212)
+-- ---- action statements: some objects, targets and so on are there (9.7.1 to 9.7.3 and 12.6.1)
 
 abbrev pub maybe_told : Option Expression → Bool
 maybe_told e = maybe (option_map is_told e)
@@ -197,7 +197,7 @@ action_told (action.Print p items) = all (map is_told items)
 action_told (action.Read p targets) = references_told targets
 action_told (action.ReadUnit p stat targets) = status_told stat && references_told targets
 
--- ---- statements that begin, divide and end constructs: no CASE has empty parentheses (R1146), and no name stands behind the end
+-- ---- statements that begin, divide and end constructs: no CASE has empty parentheses (11.1.9.1), and no name stands behind the end
 
 abbrev pub control_told : LoopControl → Bool
 control_told control.Endless = true

@@ -1,6 +1,6 @@
 //! Laws of the tokens that trees stand for.
 
-ghost use Rattle.f_spelling_laws.specs.Laws.{OfExpressions, OfReferences, OfTypes, OfActions, OfBlocks, OfSpecifications, OfUnits, OfFiles, OfTexts};
+ghost use Rattle.f_spelling_laws.specs.Laws.{OfExpressions, OfReferences, OfTypes, OfActions, OfBlocks, OfSpecifications, OfUnits, OfFiles, OfTexts, PlainAreTold};
 
 /// The tokens of an expression are those that the grammar spells for it (ISO/IEC 1539-1:2018, 10.1).
 pub fn lexemes_of_an_expression()
@@ -45,4 +45,9 @@ pub fn lexemes_are_a_file()
 /// A unit of a text, printed by itself and read again, has the same statements, or the printed text breaks a rule on lengths (L01, L07, L08).
 pub fn printed_units_are_read_again()
     ensures { OfTexts }
+{}
+
+/// Units whose statements are a file are told by their views where no CHARACTER has empty parentheses (7.4.4.2).
+pub fn plain_units_are_told()
+    ensures { PlainAreTold }
 {}

@@ -9,5 +9,5 @@ mod laws;
 pub use laws::{
     lexemes_are_a_file, lexemes_are_the_statements, lexemes_of_a_block, lexemes_of_a_reference,
     lexemes_of_a_specification, lexemes_of_a_type, lexemes_of_an_action, lexemes_of_an_expression,
-    printed_units_are_read_again,
+    plain_units_are_told, printed_units_are_read_again,
 };
