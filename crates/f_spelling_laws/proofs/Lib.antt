@@ -1,0 +1,16 @@
+pub mod Fronts
+pub mod Expressions
+pub mod Ahead
+pub mod Actions
+pub mod Lines
+pub mod Constructs
+pub mod Declarations
+pub mod Specifications
+pub mod Units
+pub mod Whole
+pub mod Endless
+pub mod Files
+pub mod Texts
+pub mod Good
+pub mod PlainConstructs
+pub mod PlainUnits

@@ -1,0 +1,4 @@
+pub mod Told
+pub mod Statements
+pub mod Laws
+pub mod Plain
