@@ -1,6 +1,6 @@
 -- Where statements have a place in an execution part, by what they do to a construct (ISO/IEC 1539-1:2018, 11.1).
 use Rattle.std.specs.Prelude.{List, [], ◌∷◌, Option, Some, None}
-use Rattle.f_unit_grammar.specs.Units.{State, File, InUnit, InIf, InElse, InDo, InSelectCase, InCase, InSelectRank, InRank, Role, stays, enters, leaves, none}
+use Rattle.f_unit_grammar.specs.Units.{Scope, InProgram, InProcedure, Executing, State, File, InUnit, InIf, InElse, InDo, InSelectCase, InCase, InSelectRank, InRank, Role, stays, enters, leaves, none}
 use Rattle.f_construct_parts.specs.declared.statements.Next.{Next}
 use Rattle.f_construct_parts.specs.declared.statements.Next.TheVariants as next
 use Rattle.f_construct_parts.specs.Walking.{moved}
@@ -49,7 +49,13 @@ rank_next next.Rank = stays InRank
 rank_next next.EndSelect = leaves
 rank_next n = begun_next InRank n
 
+abbrev pub executed_next : Scope → Next → Role
+executed_next (InProgram name) n = begun_next (InUnit (InProgram name) Executing) n
+executed_next (InProcedure f name) n = begun_next (InUnit (InProcedure f name) Executing) n
+executed_next _ n = none
+
 abbrev pub role_next : State → Next → Role
+role_next (InUnit u p) n = executed_next u n
 role_next InIf n = if_next n
 role_next InElse n = else_next n
 role_next InDo n = do_next n
