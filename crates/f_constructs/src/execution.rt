@@ -14,8 +14,7 @@ use crate::begin::{action, do_begun, if_action, if_then, select_case, select_ran
 use crate::divide::{divide, divide_cases, divide_ranks};
 use crate::nest::Nest;
 use crate::stack::Stack;
-use crate::select_case as case_blocks;
-use crate::select_rank as rank_blocks;
+use crate::{select_case as case_blocks, select_rank as rank_blocks};
 use f_construct_parts::head::{SelectCaseHead, SelectRankHead};
 use f_construct_parts::{Next, next_line};
 use f_line_read::Line;

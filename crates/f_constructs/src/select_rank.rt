@@ -10,7 +10,7 @@ ghost use Rattle.f_construct_parts.specs.Lines.{blocks_of, end_line, rank_line, 
 ghost use Rattle.f_construct_parts.specs.Views.{next_line};
 ghost use Rattle.f_constructs.specs.Frames.{frame_state, frames_front, nest_front, nest_states, rank_start_front};
 
-use crate::frame::{RankFrame, RankStart, Frame};
+use crate::frame::{Frame, RankFrame, RankStart};
 use crate::head::{rank_head, select_ending};
 use crate::nest::{Nest, within_rank};
 use crate::stack::Stack;
