@@ -1,5 +1,5 @@
 -- What is open behind one statement more of an execution part: by what the statement does to a construct, and inside of a program unit.
-use Rattle.std.proofs.Common.{◌≡◌, List, [], ◌∷◌, ◌++◌, Option, Some, None, Bool, true, false, map, refl, sym, ap, ◌∙◌}
+use Rattle.std.proofs.Common.{◌≡◌, List, [], ◌∷◌, ◌++◌, Option, Some, None, Bool, true, false, map, refl, ap, ◌∙◌}
 use Rattle.std.specs.Option.{option_map}
 use Rattle.f_tree.specs.declared.statement.CaseChoice.TheVariants as choice
 use Rattle.f_tree.specs.declared.statement.RankChoice.TheVariants as rank

@@ -1,5 +1,5 @@
 -- Where statements have a place in an execution part, by what they do to a construct (ISO/IEC 1539-1:2018, 11.1).
-use Rattle.std.specs.Prelude.{List, [], ◌∷◌, Option, Some, None}
+use Rattle.std.specs.Prelude.{List, [], ◌∷◌, Option}
 use Rattle.f_unit_grammar.specs.Units.{Scope, InProgram, InProcedure, Executing, State, File, InUnit, InIf, InElse, InDo, InSelectCase, InCase, InSelectRank, InRank, Role, stays, enters, leaves, none}
 use Rattle.f_construct_parts.specs.declared.statements.Next.{Next}
 use Rattle.f_construct_parts.specs.declared.statements.Next.TheVariants as next
