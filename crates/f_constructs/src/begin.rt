@@ -1,12 +1,12 @@
 //! Statements that have a place in every block: action statements, and the first statements of constructs.
 
-ghost use Rattle.std.specs.Prelude.{◌≡◌, ◌∷◌, List, map, IfOk};
+ghost use Rattle.std.specs.Prelude.{◌≡◌, ◌∷◌, List, IfOk};
 ghost use Rattle.f_line_read.specs.Lines.{view_line};
 ghost use Rattle.f_statement_grammar.specs.Statements as grammar;
 ghost use Rattle.f_unit_grammar.specs.Units.{InIf, InDo, InSelectCase, InSelectRank};
 ghost use Rattle.f_construct_parts.specs.declared.statements.Next.TheVariants as next;
 ghost use Rattle.f_construct_parts.specs.Views.{next_line};
-ghost use Rattle.f_constructs.specs.Frames.{frames_front, nest_front, nest_states};
+ghost use Rattle.f_constructs.specs.Frames.{nest_front, nest_states};
 ghost use Rattle.f_constructs.specs.Execution.{front, states};
 
 use crate::execution::{Execution, Selecting};
