@@ -1,14 +1,15 @@
 -- What is open behind one statement more of an execution part: by what the statement does to a construct, and inside of a program unit.
 use Rattle.std.proofs.Common.{◌≡◌, List, [], ◌∷◌, ◌++◌, Option, Some, None, Bool, true, false, map, refl, ap, ◌∙◌}
-use Rattle.std.specs.Option.{option_map}
+use Rattle.std.specs.Option.{IsSome, option_map}
 use Rattle.f_tree.specs.declared.statement.CaseChoice.TheVariants as choice
 use Rattle.f_tree.specs.declared.statement.RankChoice.TheVariants as rank
 use Rattle.f_line_grammar.specs.Lines as form
+use Rattle.f_declaration_grammar.specs.Declarations as declared
 use Rattle.f_line_read.specs.declared.line.Construct.TheVariants as construct
 use Rattle.f_line_read.specs.declared.line.Line.{Line}
 use Rattle.f_line_read.specs.declared.line.Line.TheVariants as line
 use Rattle.f_line_read.specs.Lines.{view_line}
-use Rattle.f_statement_grammar.specs.Statements.{Statement, Executable}
+use Rattle.f_statement_grammar.specs.Statements.{Statement, Executable, Declaring}
 use Rattle.f_unit_grammar.specs.Units.{Scope, InProgram, InModule, InProcedure, InBody, Part, Executing, State, File, InUnit, Containing, InType, InInterface, InIf, InElse, InDo, InSelectCase, InCase, InSelectRank, InRank, Role, stays, enters, leaves, none, role, begun, executed_role}
 use Rattle.f_construct_parts.specs.declared.statements.Next.{Next}
 use Rattle.f_construct_parts.specs.declared.statements.Next.TheVariants as next
@@ -17,7 +18,10 @@ use Rattle.f_construct_parts.specs.Views.{next_line, starts}
 use Rattle.f_constructs.specs.declared.frame.Frame.{Frame}
 use Rattle.f_constructs.specs.declared.frame.Frame.TheVariants as frame
 use Rattle.f_constructs.specs.Frames.{frame_state}
-use Rattle.f_constructs.specs.Execution.{after, behind}
+use Rattle.f_constructs.specs.declared.execution.Selecting.{Selecting}
+use Rattle.f_constructs.specs.declared.execution.Selecting.TheVariants as selecting
+use Rattle.f_constructs.specs.declared.execution.Execution.{Execution}
+use Rattle.f_constructs.specs.Execution.{after, behind, states, selecting_states}
 use Rattle.f_constructs.specs.Next.{begun_next, executed_next, role_next, after_next, started}
 
 -- ---- by what a statement does to a construct
@@ -367,3 +371,26 @@ pub after_on : (ks : List State) (u : Scope) (p : Part) (outer : List State) (l 
 unfolding after
 after_on [] u p outer l e s = in_unit u p outer l e
 after_on (k ∷ ks) u p outer l e s = ap (λ (q : Part). moved (role k (Executable l)) (ks ++ InUnit u q ∷ outer)) s ∙ moved_on (role k (Executable l)) ks (InUnit u Executing ∷ outer)
+
+-- ---- statements that aren't executable
+
+frame_declares_nothing : (f : Frame) (ks : List State) (d : declared.Declared) → IsSome (moved (role (frame_state f) (Declaring d)) ks) → ⊥
+unfolding role frame_state
+frame_declares_nothing (frame.If f) ks d h = cc
+frame_declares_nothing (frame.ElseIf f) ks d h = cc
+frame_declares_nothing (frame.Else f) ks d h = cc
+frame_declares_nothing (frame.Do f) ks d h = cc
+frame_declares_nothing (frame.Case f) ks d h = cc
+frame_declares_nothing (frame.Rank f) ks d h = cc
+
+open_nothing : (s : Selecting) (fs : List Frame) (outer : List State) (d : declared.Declared) → IsSome (step (selecting_states s (map frame_state fs) ++ outer) (Declaring d)) → selecting_states s (map frame_state fs) ≡ []
+unfolding role
+open_nothing selecting.Nothing [] outer d h = refl
+open_nothing selecting.Nothing (f ∷ fs) outer d h = absurd (frame_declares_nothing f (map frame_state fs ++ outer) d h)
+open_nothing (selecting.Case x) fs outer d h = absurd cc
+open_nothing (selecting.Rank x) fs outer d h = absurd cc
+
+-- where one has a place, no construct is open
+pub nothing_open : (e : Execution) (outer : List State) (d : declared.Declared) → IsSome (step (states e ++ outer) (Declaring d)) → states e ≡ []
+unfolding states
+nothing_open e outer d h = open_nothing e.selecting e.nest.frames outer d h

@@ -30,8 +30,8 @@ use Rattle.jf_base.specs.declared.tag.Tag.{Tag}
 use Rattle.source_tokens.specs.Sources.{Files, Source, AreSources, IsBroken, Reaches}
 use Rattle.source_tokens.proofs.OneList.{one_list, none_broken}
 use Rattle.fcc_core.specs.Outside.{SinkAt, Outside}
-use Rattle.fcc_core.specs.Front.{IsUnbuilt}
-use Rattle.fcc_core.specs.Sources.{IsProgram, IsNotBuilt, Misplaced, InFortran, InC}
+use Rattle.fcc_core.specs.Front.{IsMisnamed, IsUnbuilt}
+use Rattle.fcc_core.specs.Sources.{IsProgram, LacksForm, IsNotBuilt, Misplaced, InFortran, InC}
 use Rattle.fcc_core.specs.Lines.{ended_status}
 use Rattle.fcc_core.specs.Said.{Said}
 use Rattle.fcc_core.specs.Answer.{IsRun, Cause, NoMemory, NotGiven, NotAccepted, Ran, NoWords, NoRoom, OfRun, Answer, IsAnswered, ending_status, IsComplete}
@@ -80,13 +80,13 @@ module _ (files : Files) (names : List (List ℕ)) where
       cc
 
   -- files that make a program are built
-  built : (program : FirstProgram) (k : ℕ) → IsProgram files names program → IsNotBuilt files names k → ⊥
-  built program k p (Misplaced k' sources at there) = let e : None ≡ Some k' = sym p.placed ∙ at in cc
-  built program k p (InFortran fortran c placed sources none) =
+  has_form : (program : FirstProgram) (sources : List Source) (k : ℕ) → IsProgram files names program → AreSources files 0 0 names sources → LacksForm names sources k → ⊥
+  has_form program _ k p there (Misplaced k' sources at) = let e : None ≡ Some k' = sym p.placed ∙ at in cc
+  has_form program _ k p sources (InFortran fortran c placed none) =
       let same = same_files p.fortran p.c fortran c p.sources sources in
       let P : List ℕ → Type 0 = λ x. IsFortranText x program.label program.calls in
       none program.label program.calls (subst P same.0 p.are_texts.fortran_text)
-  built program k p (InC fortran c placed sources fault) =
+  has_form program _ k p sources (InC fortran c placed fault) =
       let same = same_files p.fortran p.c fortran c p.sources sources in
       let P : List ℕ → Type 0 = λ x. IsFortranText x program.label program.calls in
       let Q : List ℕ → Type 0 = λ x. IsCText x program.label program.puts in
@@ -94,10 +94,15 @@ module _ (files : Files) (names : List (List ℕ)) where
       let label : program.label ≡ fault.label = (one_fortran fortran.text program.label program.calls fault.label fault.calls (subst P same.0 p.are_texts.fortran_text) fault.fortran_text).0 in
       fault.no_c_text program.puts (subst R label (subst Q same.1 p.are_texts.c_text))
 
+  built : (program : FirstProgram) (sources : List Source) (k : ℕ) → IsProgram files names program → IsNotBuilt files names sources k → ⊥
+  built program sources k p n = has_form program sources k p n.are_sources n.lacks
+
   -- and not refused
-  not_refused : (program : FirstProgram) (place : Place) (tag : Tag) → IsProgram files names program → Reaches files (IsBroken files place tag) 0 0 names ⊎ IsUnbuilt files names place tag → ⊥
+  not_refused : (program : FirstProgram) (place : Place) (tag : Tag) → IsProgram files names program
+      → Reaches files (IsBroken files place tag) 0 0 names ⊎ IsMisnamed files names place tag ⊎ IsUnbuilt files names place tag → ⊥
   not_refused program place tag p (inl broken) = none_broken files place tag 0 0 names (p.fortran ∷ p.c ∷ []) p.sources broken
-  not_refused program place tag p (inr unbuilt) = built program place.file p unbuilt.not_built
+  not_refused program place tag p (inr (inl misnamed)) = built program misnamed.sources misnamed.file p misnamed.not_built
+  not_refused program place tag p (inr (inr unbuilt)) = built program unbuilt.sources place.file p unbuilt.not_built
 
 -- where the stream didn't fail, the answer is the status
 said_status : (status : ℕ) (line : List ℕ) (result : ℕ) (err err' : SinkAt) → ¬ (Rose err.faults err'.faults) → Said status line result err.faults err'.faults err.contents err'.contents → result ≡ status

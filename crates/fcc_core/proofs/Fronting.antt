@@ -10,8 +10,10 @@ use Rattle.source_tokens.specs.Outside.{LibraryAt, IsUntroubled}
 use Rattle.source_tokens.specs.Sources.{Source, AreSources}
 use Rattle.source_tokens.specs.Reading.{Told, AreRead}
 use Rattle.first_form.specs.declared.program.FirstProgram.{FirstProgram}
-use Rattle.fcc_core.specs.Sources.{misplaced, Misplaced, InFortran, InC, IsNotBuilt}
-use Rattle.fcc_core.specs.Front.{IsFronted, IsReadAs, IsRefused, IsFirstLine, front_fault}
+use Rattle.fcc_core.specs.Sources.{misplaced, LacksForm, Misplaced, InFortran, InC, IsNotBuilt}
+use Rattle.fcc_core.specs.Front.{IsFronted, IsReadAs, IsForm, IsFormed, IsToldOf, IsToldBy, IsRefused, IsFirstLine, front_fault}
+use Rattle.fcc_core.specs.declared.front.FormFault.{FormFault}
+use Rattle.fcc_core.specs.declared.front.FormFault.TheVariants as form
 use Rattle.fcc_core.specs.declared.front.FrontFault.{FrontFault}
 use Rattle.fcc_core.specs.declared.front.FrontFault.TheVariants as fault
 
@@ -26,30 +28,52 @@ module _ (names : List (List ℕ)) (before after : LibraryAt) where
   not_read (source.Library name) read = record { failed = read.0; due = read.1 }
   not_read (source.Source place tag) read = record { untroubled = read.0; is_tag = read.1; why = λ files told. inl (read.2 files told) }
 
-  module _ (calm : IsUntroubled before after) where
-    refused : (place : Place) (tag : Tag) (number : ℕ) → IsFirstLine place.file place.line tag.0 number → Told before (λ files. IsNotBuilt files names number) → IsRefused names place tag before after
-    refused place tag number at built = record {
+  -- files were read
+  module _ (calm : IsUntroubled before after) (sources : List Source) (given : Told before (λ files. AreSources files 0 0 names sources)) where
+    pub formed : (program : FirstProgram) → IsForm names sources program → IsFronted names (Ok program) before after
+    formed program f = (
+      calm,
+      f.is_program,
+      λ files told. record {
+        fortran = f.fortran;
+        c = f.c;
+        placed = f.placed;
+        sources = (let P : List Source → Type 0 = λ l. AreSources files 0 0 names l in subst P f.sources_are (given files told));
+        are_texts = f.are_texts;
+      },
+    )
+
+    told_of : (k : ℕ) → LacksForm names sources k → (f : FrontFault) → IsToldOf sources k f → IsFronted names (Err f) before after
+    told_of k lacks fault.Memory t = tt
+    told_of k lacks (fault.Library name) t = absurd t
+    told_of k lacks (fault.Source place tag) (inl breaks) = record {
+      untroubled = calm;
+      is_tag = breaks.broken.is_tag;
+      why = λ files told. inr (inl (record { sources = sources; file = k; not_built = record { are_sources = given files told; lacks = lacks }; breaks = breaks }));
+    }
+    told_of k lacks (fault.Source place tag) (inr (at, keeps)) = record {
       untroubled = calm;
       is_tag = built_tag at.tag_is;
-      why = λ files told. inr (record {
+      why = λ files told. inr (inr (record {
+        sources = sources;
+        not_built = record { are_sources = given files told; lacks = (let P : ℕ → Type 0 = λ n. LacksForm names sources n in subst P (sym at.file_is) lacks) };
+        keeps = keeps;
         line_is = at.line_is;
         tag_is = at.tag_is;
-        not_built = (let P : ℕ → Type 0 = λ n. IsNotBuilt files names n in subst P (sym at.file_is) (built files told));
-      });
+      }));
     }
 
-    pub misplaced_refused : (file : ℕ) (sources : List Source) → misplaced names ≡ Some file → Told before (λ files. AreSources files 0 0 names sources)
-        → IsRefused names (record { file = file; line = 1; column = 1 }) (record { 0 = 1001 }) before after
-    misplaced_refused file sources at given =
-        refused _ _ file (record { file_is = refl; line_is = refl; tag_is = refl }) (λ files told. Misplaced file sources at (given files told))
+    pub not_formed : (x : FormFault) → IsFormed names sources (Err x) → (f : FrontFault) → IsToldBy sources x f → IsFronted names (Err f) before after
+    not_formed form.Memory lacks f told = let P : FrontFault → Type 0 = λ f. IsFronted names (Err f) before after in subst P (sym told) tt
+    not_formed (form.NotBuilt k) lacks f told = told_of k lacks f told
 
-    module _ (fortran c : Source) (placed : misplaced names ≡ None) (given : Told before (λ files. AreSources files 0 0 names (fortran ∷ c ∷ []))) where
-      pub fronted : (r : Result FirstProgram FrontFault) → IsReadAs fortran.text c.text r → IsFronted names r before after
-      fronted (Ok program) read = (calm, read.1, λ files told. record { fortran = fortran; c = c; placed = placed; sources = given files told; are_texts = read.0 })
-      fronted (Err fault.Memory) read = tt
-      fronted (Err (fault.Library name)) read = absurd read
-      fronted (Err (fault.Source place tag)) (inl read) = refused place tag 0 read.0 (λ files told. InFortran fortran c placed (given files told) read.1)
-      fronted (Err (fault.Source place tag)) (inr read) = refused place tag 1 read.0 (λ files told. InC fortran c placed (given files told) read.1)
+-- what is read of the texts of two files is what is read of the files
+module _ (names : List (List ℕ)) (placed : misplaced names ≡ None) (fortran c : Source) where
+  pub read_as : (r : Result FirstProgram FormFault) → IsReadAs fortran.text c.text r → IsFormed names (fortran ∷ c ∷ []) r
+  read_as (Ok program) read = record { fortran = fortran; c = c; placed = placed; sources_are = refl; are_texts = read.0; is_program = read.1 }
+  read_as (Err form.Memory) read = tt
+  read_as (Err (form.NotBuilt k)) (inl (e, none)) = let P : ℕ → Type 0 = λ n. LacksForm names (fortran ∷ c ∷ []) n in subst P (sym e) (InFortran fortran c placed none)
+  read_as (Err (form.NotBuilt k)) (inr (e, broken)) = let P : ℕ → Type 0 = λ n. LacksForm names (fortran ∷ c ∷ []) n in subst P (sym e) (InC fortran c placed broken)
 
 -- a list of two is made of its items
 pub two_items : (l : List SourceFile) (x y : SourceFile) → 2 ≤ length l → length l < 3 → x ≡ get_or l 0 x → y ≡ get_or l 1 y → l ≡ x ∷ y ∷ []

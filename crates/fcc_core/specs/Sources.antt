@@ -25,11 +25,17 @@ pub record IsProgram (files : Files) (names : List (List ℕ)) (program : FirstP
   pub sources : AreSources files 0 0 names (fortran ∷ c ∷ [])
   pub are_texts : AreTexts fortran.text c.text program
 
--- the file of this number is the first that isn't in the form that is built so far; all files have their tokens, with their statements or external declarations
-pub data IsNotBuilt (files : Files) (names : List (List ℕ)) : ℕ → Type 0 where
-  Misplaced : (k : ℕ) (sources : List Source) → misplaced names ≡ Some k → AreSources files 0 0 names sources → IsNotBuilt files names k
-  InFortran : (fortran c : Source) → misplaced names ≡ None → AreSources files 0 0 names (fortran ∷ c ∷ []) → IsNoFortranText fortran.text → IsNotBuilt files names 0
-  InC : (fortran c : Source) → misplaced names ≡ None → AreSources files 0 0 names (fortran ∷ c ∷ []) → IsFaultInC fortran.text c.text → IsNotBuilt files names 1
+-- of files with these names, that of this number is the first that isn't in the form that is built so far
+pub data LacksForm (names : List (List ℕ)) : List Source → ℕ → Type 0 where
+  Misplaced : (k : ℕ) (sources : List Source) → misplaced names ≡ Some k → LacksForm names sources k
+  InFortran : (fortran c : Source) → misplaced names ≡ None → IsNoFortranText fortran.text → LacksForm names (fortran ∷ c ∷ []) 0
+  InC : (fortran c : Source) → misplaced names ≡ None → IsFaultInC fortran.text c.text → LacksForm names (fortran ∷ c ∷ []) 1
+
+-- these are the files of these names, with their tokens and their statements or external declarations, and this is the first that isn't in the form that is
+-- built so far
+pub record IsNotBuilt (files : Files) (names : List (List ℕ)) (sources : List Source) (file : ℕ) : Type 0 where
+  pub are_sources : AreSources files 0 0 names sources
+  pub lacks : LacksForm names sources file
 
 -- the library failed to give the file of this name, which is the next that is read; no rule is broken before
 pub record IsNotGiven (names : List (List ℕ)) (name : List ℕ) (before after : LibraryAt) : Type 0 where

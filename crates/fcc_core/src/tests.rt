@@ -1,5 +1,6 @@
 //! Whole calls over the outside in memory.
 mod failures;
+mod names;
 mod outputs;
 mod refusals;
 

@@ -1,5 +1,5 @@
 -- One file.
-use Rattle.std.proofs.Common.{◌≡◌, ℕ, ◌+◌, ◌≤◌, List, map, length, Option, Some, None, IsSome, IfSome, true, false, Result, Ok, Err, refl, sym, ap, ◌∙◌, subst, inl, inr, lit≤}
+use Rattle.std.proofs.Common.{◌≡◌, ℕ, ◌+◌, ◌≤◌, List, [], map, length, Option, Some, None, IsSome, IfSome, true, false, Result, Ok, Err, refl, sym, ap, ◌∙◌, subst, inl, inr, lit≤}
 use Rattle.std.proofs.Math.Dec.{leb}
 use Rattle.std.specs.Prelude.{T, ◌/◌, ◌%◌, ◌-◌, slice_index}
 use Rattle.jf_base.specs.Tags.{IsTag, group_sizes}
@@ -13,8 +13,8 @@ use Rattle.f_lex.specs.Rules.{tag_number}
 use Rattle.f_lex.specs.declared.token.Spanned.{Spanned}
 use Rattle.f_lex.specs.Lexing.{Lexes, IsLexed}
 use Rattle.f_statement_grammar.specs.Statements.{Statement as Spelled}
-use Rattle.f_statement_read.specs.declared.statement.Statement.{Statement}
-use Rattle.f_statement_read.specs.Views.{view_statement}
+use Rattle.f_tree.specs.declared.unit.Unit.{Unit as ProgramUnit}
+use Rattle.f_unit_parts.specs.Units.{units_of}
 use Rattle.f_file_read.specs.Reading.{read_file}
 use Rattle.f_file_read.specs.Views.{Answers}
 use Rattle.f_file_read.proofs.Whole.{file_broken}
@@ -70,14 +70,14 @@ c_rule_tag crule.Error = of_tests tt tt tt tt
 c_rule_tag crule.NoToken = of_tests tt tt tt tt
 c_rule_tag crule.TooMany = of_tests tt tt tt tt
 
--- ---- Fortran's lexis and statements
+-- ---- Fortran's lexis and units
 
-abbrev pub views : Vec Statement Global → List Spelled
-views v = map view_statement v.items
+abbrev pub views : List ProgramUnit → List Spelled
+views us = units_of us []
 
 module _ (text : List ℕ) (ts : List Spanned) where
-  -- statements were read
-  pub parsed : (v : Vec Statement Global) → Answers views (Ok v) (read_file ts) → AreStatements ts (views v)
+  -- units were read
+  pub parsed : (v : List ProgramUnit) → Answers views (Ok v) (read_file ts) → AreStatements ts (views v)
   parsed v e = of_statements ts (views v) e
 
   -- none were

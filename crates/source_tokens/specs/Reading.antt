@@ -1,5 +1,5 @@
 -- What reading files answers.
-use Rattle.std.specs.Prelude.{◌≡◌, ℕ, ◌+◌, ◌≤◌, List, map, length, Some, IsSome, Result, Ok, Err}
+use Rattle.std.specs.Prelude.{◌≡◌, ℕ, ◌+◌, ◌≤◌, List, [], map, length, Some, IsSome, Result, Ok, Err}
 use Rattle.std.specs.declared.vec.Vec.{Vec}
 use Rattle.std.specs.declared.alloc.Global.{Global}
 use Rattle.jf_base.specs.Tags.{IsTag}
@@ -7,7 +7,7 @@ use Rattle.jf_outside.specs.Count.{Rose}
 use Rattle.jf_outside.specs.Listing.{listed}
 use Rattle.f_lex.specs.declared.token.Spanned.{Spanned}
 use Rattle.f_lex.specs.Lexing.{Lexes}
-use Rattle.f_statement_read.specs.Views.{view_statement}
+use Rattle.f_unit_parts.specs.Units.{units_of}
 use Rattle.f_file_read.specs.BrokenAt.{BrokenAt}
 use Rattle.jf_base.specs.declared.place.Refusal.{Refusal}
 use Rattle.jf_base.specs.declared.place.Refusal.TheVariants as refusal
@@ -38,9 +38,9 @@ pub record HasFailed (asked : List ℕ) (before after : LibraryAt) : Type 0 wher
 
 -- ---- one file
 
--- a file's tokens, and its statements without their places or its external declarations
+-- a file's tokens, and the statements of its program units without their places or its external declarations
 abbrev pub seen_tokens : SourceTokens → Tokens
-seen_tokens (tokens.Fortran ts ss) = Fortran ts (map view_statement ss)
+seen_tokens (tokens.Fortran ts us) = Fortran ts (units_of us [])
 seen_tokens (tokens.C ts u) = C ts (view_unit u)
 
 abbrev pub seen : SourceFile → Source

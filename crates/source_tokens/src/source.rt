@@ -7,20 +7,20 @@ use c_pre::{PreFault, expand};
 use c_read::read_c;
 use c_token::CSpanned;
 use c_tree::CUnit;
-use f_file_read::read_statements;
 use f_lex::{Spanned, lex};
-use f_statement_read::Statement;
+use f_read::read_units;
+use f_tree::Unit;
 use jf_base::{List, Place, Refusal, Tag, Text};
 use jf_outside::{Library, LibraryFault};
 use std::alloc::Global;
 
-/// The tokens of a file: those of Fortran's free source form with the statements that they are, or those of C behind directives, macro replacement and
+/// The tokens of a file: those of Fortran's free source form with the program units that they are, or those of C behind directives, macro replacement and
 /// headers with the external declarations that they are.
 #[derive(Drop)]
 pub enum SourceTokens {
     Fortran {
         tokens: List<Spanned>,
-        statements: List<Statement>,
+        units: List<Unit>,
     },
     C {
         tokens: List<CSpanned>,
@@ -99,19 +99,19 @@ fn source_fault(refusal: Refusal) -> SourceFault
 }
 
 // The file of these bytes and tokens in Fortran.
-fn with_statements(
+fn with_units(
     alloc: Global,
     text: List<u8>,
     tokens: Vec<Spanned>,
 ) -> Result<SourceFile, SourceFault>
     ensures { IsParsed text tokens.items result }
 {
-    match read_statements(alloc, tokens.as_slice()) {
-        Ok(statements) => Ok(SourceFile {
+    match read_units(alloc, tokens.as_slice()) {
+        Ok(units) => Ok(SourceFile {
             text,
             tokens: SourceTokens::Fortran {
                 tokens: List(tokens),
-                statements: List(statements),
+                units,
             },
         }),
         Err(refusal) => Err(source_fault(refusal)),
@@ -129,7 +129,7 @@ fn fortran_source(
     ensures { IsFortran file before text result }
 {
     match lex(alloc, file, before, text.as_slice()) {
-        Ok(tokens) => with_statements(alloc, text, tokens),
+        Ok(tokens) => with_units(alloc, text, tokens),
         Err(refusal) => Err(source_fault(refusal)),
     }
 }

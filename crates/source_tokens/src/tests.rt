@@ -17,13 +17,13 @@ fn library(
     Ok(MemoryLibrary::new(list, failing.to_vec(alloc)?))
 }
 
-// The language and the number of tokens, and behind a slash that of a Fortran file's statements or of a C file's external declarations.
+// The language and the number of tokens, and behind a slash that of a Fortran file's program units or of a C file's external declarations.
 fn put_count(alloc: Global, out: &mut Vec<u8>, tokens: &SourceTokens) -> Result<(), AllocError> {
     let number = tokens.count();
     let text = match tokens {
-        SourceTokens::Fortran { statements, .. } => {
-            let statements = statements.len();
-            format!(in alloc; "F{number}/{statements} ")?
+        SourceTokens::Fortran { units, .. } => {
+            let units = units.len();
+            format!(in alloc; "F{number}/{units} ")?
         }
         SourceTokens::C { unit, .. } => {
             let externals = unit.externals.len();
@@ -48,7 +48,7 @@ fn put_fault(alloc: Global, out: &mut Vec<u8>, fault: &SourceFault) -> Result<()
     }
 }
 
-// The language, the number of tokens and that of statements or external declarations of each file, or the fault.
+// The language, the number of tokens and that of program units or external declarations of each file, or the fault.
 fn shown(
     alloc: Global,
     names: &[&str],
@@ -94,7 +94,7 @@ fn each_file_has_its_tokens(rt: HostRuntime) -> Result<(), Fail> {
     ];
     assert_eq!(rt;
         shown(alloc, &["p.f90", "q.c", "r.f90"], &files, &[])?.as_slice(),
-        b"F9/3 C18/2 F0/0 ".as_slice()
+        b"F9/1 C18/2 F0/0 ".as_slice()
     );
     assert_eq!(rt;
         shown(alloc, &["q.c"], &files, &[])?.as_slice(),
@@ -184,7 +184,7 @@ fn parentheses_nest_up_to_their_limit(rt: HostRuntime) -> Result<(), Fail> {
     );
     assert_eq!(rt;
         shown(alloc, &["p.f90"], &files, &[])?.as_slice(),
-        b"F138/3 ".as_slice()
+        b"F138/1 ".as_slice()
     );
     Ok(())
 }

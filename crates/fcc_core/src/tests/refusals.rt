@@ -2,7 +2,7 @@ use super::{C, FORTRAN, Failing, NOTHING_FAILS, check, pair, ran};
 use std::test::Fail;
 
 const MODULE: &str =
-    "module one\nuse iso_c_binding\nimplicit none\ncontains\nsubroutine put(c) bind(c)\ninteger(c_int), value :: c\nend subroutine\nend module\n";
+    "module two\nuse iso_c_binding\nimplicit none\ncontains\nsubroutine put(c) bind(c)\ninteger(c_int), value :: c\nend subroutine\nend module\n";
 
 const GET: &str = "#include <stdio.h>\nvoid get(int c){putchar(c);}\n";
 

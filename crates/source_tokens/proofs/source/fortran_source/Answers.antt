@@ -8,7 +8,7 @@ use Rattle.source_tokens.proofs.source.fortran_source.Goals as goal
 pub returns-in-Ok : goal.returns-in-Ok
 returns-in-Ok c =
     let P : List ℕ → Type 0 = λ t. Lexes c.args.file c.args.before t c.in-Ok.tokens.items in
-    of_parsed c.args.file c.args.before c.args.text c.in-Ok.tokens.items c.with_statements.result (subst P c.as_slice.ensures c.in-Ok.ensures) c.with_statements.ensures
+    of_parsed c.args.file c.args.before c.args.text c.in-Ok.tokens.items c.with_units.result (subst P c.as_slice.ensures c.in-Ok.ensures) c.with_units.ensures
 
 pub returns-in-Err : goal.returns-in-Err
 returns-in-Err c =

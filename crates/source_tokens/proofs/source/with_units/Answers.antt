@@ -1,17 +1,17 @@
-use Rattle.std.proofs.Common.{List, map, Err, refl, sym, subst}
+use Rattle.std.proofs.Common.{List, [], Err, refl, sym, subst}
 use Rattle.f_lex.specs.declared.token.Spanned.{Spanned}
-use Rattle.f_statement_read.specs.Views.{view_statement}
+use Rattle.f_unit_parts.specs.Units.{units_of}
 use Rattle.source_tokens.specs.declared.source.SourceFault.{SourceFault}
 use Rattle.source_tokens.specs.Sources.{AreStatements}
 use Rattle.source_tokens.specs.Reading.{source_fault, IsParsed}
 use Rattle.source_tokens.proofs.One.{parsed, unparsed}
-use Rattle.source_tokens.proofs.source.with_statements.Goals as goal
+use Rattle.source_tokens.proofs.source.with_units.Goals as goal
 
 pub returns-in-Ok : goal.returns-in-Ok
 returns-in-Ok c =
-    let statements = map view_statement c.in-Ok.statements.items in
+    let statements = units_of c.in-Ok.units [] in
     let P : List Spanned → Type 0 = λ ts. AreStatements ts statements in
-    (statements, refl, subst P c.as_slice.ensures.value (parsed c.args.text c.as_slice.result.now c.in-Ok.statements c.in-Ok.ensures))
+    (statements, refl, subst P c.as_slice.ensures.value (parsed c.args.text c.as_slice.result.now c.in-Ok.units c.in-Ok.ensures))
 
 pub returns-in-Err : goal.returns-in-Err
 returns-in-Err c =

@@ -1,0 +1,6 @@
+use Rattle.f_unit_grammar.specs.Units.{Beginning}
+use Rattle.f_units.proofs.Chains.{states_then}
+use Rattle.f_units.proofs.owned.begin_module.Goals as goal
+
+pub returns-clause-open : goal.returns-clause-open
+returns-clause-open c = states_then c.specify.result _ _ c.specify.ensures.open (c.in_ok-owner.ensures.open Beginning)

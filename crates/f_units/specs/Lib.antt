@@ -1,0 +1,4 @@
+pub mod Owners
+pub mod Opens
+pub mod Ends
+pub mod Kinds
